@@ -1,0 +1,135 @@
+-- From patterns to floats: a pattern below an infinity's is a float of that many units, and a float above 0 has such a pattern. Assumes nothing.
+use mathlib.Core.Path.{_≡_, refl, sym, ap, _∙_, subst}
+use mathlib.Core.Bool.{Bool, true, false, cond, not}
+use Prim.Native.Nat.{ℕ, zero, suc, _+_, _-_, _*_, _/_, _%_, _^_, _≤_, _<_}
+use native.Mathlib.Nat.{mod-eq-of-lt, mul-div-cancel, add-comm, lt-irrefl}
+use native.Mathlib.Omega.{arith}
+use borrow.Author.Tests.{lt-leb, leb-false, ltb-true, ltb-false, ne-eqb}
+use lib.Dec.{T, ltb, eqb}
+use lib.Ieee.{Float, nan, inf, fin, binary32, odd, ofFields, ofBits, toBits, isNan, nanBits, fits, down}
+use lib.Ieee.Bits.{ofBits-toBits, toBits-ofBits, nanBits-is}
+use lib.Ieee.Exact.{HasValue, odd-sign}
+use lib.Ieee.Fits.{down-pos}
+use lib.Ieee.Positive.{positive}
+use Rattle.measure.specs.Float.{signOf}
+use Rattle.measure.specs.Pattern.{sigOf, expOf, units}
+use Rattle.measure.specs.Root.{unitsOf}
+use Rattle.measure.proofs.Sign.{sign-of-bits}
+use Rattle.measure.proofs.Patterns.{small-sig, small-exp, large-sig, large-exp, units-is}
+
+-- ---- the units of a float
+
+pub value-units : (x : Float) (s : Bool) (a : ℕ) → HasValue x s a (2 ^ 149) → unitsOf x ≡ a
+unfolding unitsOf
+value-units nan s a h = absurd h
+value-units (inf t) s a h = absurd h
+value-units (fin t m e) s a h = ap (λ (n : ℕ). n / down e) (h .1) ∙ mul-div-cancel a (down-pos e)
+
+fields : (b : ℕ) → b < 2147483648 → ofBits binary32 b ≡ ofFields binary32 false (b / 8388608) (b % 8388608)
+unfolding ofBits
+fields b h = rw (lt-leb 2147483648 b h, mod-eq-of-lt h)
+
+-- a field other than 0 and 255
+field-value : (x t : ℕ) → suc x < 255 → HasValue (ofFields binary32 false (suc x) t) false ((8388608 + t) * 2 ^ x) (2 ^ 149)
+unfolding ofFields
+field-value x t h =
+    let n : eqb (suc x) 255 ≡ false = ne-eqb (suc x) 255 (λ e. lt-irrefl 255 (subst (λ (k : ℕ). k < 255) e h)) in
+    subst (λ (u : Bool). HasValue (cond u (cond (eqb t 0) (inf false) nan) (odd 24 false (8388608 + t) x 149)) false ((8388608 + t) * 2 ^ x) (2 ^ 149)) (sym n) (odd-sign 24 false (8388608 + t) x 149)
+
+zero-value : (t : ℕ) → HasValue (ofFields binary32 false 0 t) false (t * 2 ^ 0) (2 ^ 149)
+unfolding ofFields
+zero-value t = odd-sign 24 false t 0 149
+
+pub bits-value : (b : ℕ) → b < 2139095040 → HasValue (ofBits binary32 b) false (units b) (2 ^ 149)
+bits-value b h = go (ltb b 8388608) refl
+  where
+    go : (t : Bool) → ltb b 8388608 ≡ t → HasValue (ofBits binary32 b) false (units b) (2 ^ 149)
+    go true e =
+        let l = ltb-true b 8388608 e in
+        let z : b / 8388608 ≡ 0 = omega arith in
+        let k : b % 8388608 ≡ b = omega arith in
+        rw (fields b (omega arith), z, k, units-is b, small-sig b l, small-exp b l) (zero-value b)
+    go false e =
+        let l = ltb-false b 8388608 e in
+        let z : b / 8388608 ≡ suc (b / 8388608 - 1) = omega arith in
+        let f : suc (b / 8388608 - 1) < 255 = omega arith in
+        subst (λ (n : ℕ). HasValue (ofBits binary32 b) false n (2 ^ 149)) (ap (λ (n : ℕ). n * 2 ^ (b / 8388608 - 1)) (add-comm 8388608 (b % 8388608)) ∙ sym (units-is b ∙ rw (large-sig b l, large-exp b l)))
+        (subst (λ (x : Float). HasValue x false ((8388608 + b % 8388608) * 2 ^ (b / 8388608 - 1)) (2 ^ 149)) (sym (fields b (omega arith) ∙ ap (λ (n : ℕ). ofFields binary32 false n (b % 8388608)) z))
+        (field-value (b / 8388608 - 1) (b % 8388608) f))
+
+pub bits-units : (b : ℕ) → b < 2139095040 → unitsOf (ofBits binary32 b) ≡ units b
+bits-units b h = value-units (ofBits binary32 b) false (units b) (bits-value b h)
+
+value-no-nan : (x : Float) (s : Bool) (a c : ℕ) → HasValue x s a c → T (not (isNan x))
+unfolding isNan
+value-no-nan nan s a c h = absurd h
+value-no-nan (inf t) s a c h = absurd h
+value-no-nan (fin t m e) s a c h = tt
+
+pub bits-no-nan : (b : ℕ) → b < 2139095040 → T (not (isNan (ofBits binary32 b)))
+bits-no-nan b h = value-no-nan (ofBits binary32 b) false (units b) (2 ^ 149) (bits-value b h)
+
+pub bits-fine : (b : ℕ) → b < 2139095040 → T (not (nanBits binary32 b))
+bits-fine b h = subst (λ (t : Bool). T (not t)) (sym (nanBits-is binary32 b)) (bits-no-nan b h)
+
+pub bits-back : (b : ℕ) → b < 2139095040 → toBits binary32 (ofBits binary32 b) ≡ b
+bits-back b h = let l : b < 4294967296 = omega arith in toBits-ofBits binary32 b l (bits-no-nan b h)
+
+-- ---- the pattern of a float above 0 and finite
+
+pub positive-no-nan : (x : Float) → T (positive x) → T (not (isNan x))
+unfolding isNan
+positive-no-nan nan p = absurd p
+positive-no-nan (inf t) p = tt
+positive-no-nan (fin t m e) p = tt
+
+positive-sign : (x : Float) → T (positive x) → signOf x ≡ false
+positive-sign nan p = absurd p
+positive-sign (inf t) p = absurd p
+positive-sign (fin true m e) p = absurd p
+positive-sign (fin false m e) p = refl
+
+full-field : (t : ℕ) → T (positive (ofFields binary32 false 255 t)) → ⊥
+unfolding ofFields
+full-field t = go (eqb t 0)
+  where
+    go : (c : Bool) → T (positive (cond c (inf false) nan)) → ⊥
+    go true p = p
+    go false p = p
+
+zero-bits : T (positive (ofBits binary32 0)) → ⊥
+unfolding ofBits
+zero-bits p = p
+
+pub positive-bits : (x : Float) → T (fits binary32 x) → T (positive x) → (0 < toBits binary32 x) × (toBits binary32 x < 2139095040)
+positive-bits x f p = (least (ltb 0 b) refl, most (ltb b 2139095040) refl)
+  where
+    b : ℕ
+    b = toBits binary32 x
+
+    back : ofBits binary32 (toBits binary32 x) ≡ x
+    back = ofBits-toBits binary32 x f
+
+    p' : T (positive (ofBits binary32 (toBits binary32 x)))
+    p' = subst (λ (y : Float). T (positive y)) (sym (ofBits-toBits binary32 x f)) p
+
+    half : toBits binary32 x < 2147483648
+    half = leb-false 2147483648 (toBits binary32 x) (sign-of-bits x f ∙ positive-sign x p)
+
+    least : (t : Bool) → ltb 0 (toBits binary32 x) ≡ t → 0 < toBits binary32 x
+    least true e = ltb-true 0 (toBits binary32 x) e
+    least false e =
+        let z : toBits binary32 x ≡ 0 = omega (arith, ltb-false 0 (toBits binary32 x) e) in
+        absurd (zero-bits (subst (λ (n : ℕ). T (positive (ofBits binary32 n))) z p'))
+
+    most : (t : Bool) → ltb (toBits binary32 x) 2139095040 ≡ t → toBits binary32 x < 2139095040
+    most true e = ltb-true (toBits binary32 x) 2139095040 e
+    most false e =
+        let n = toBits binary32 x in
+        let l = ltb-false n 2139095040 e in
+        let z : n / 8388608 ≡ 255 = omega (arith, half) in
+        absurd (full-field (n % 8388608) (subst (λ (k : ℕ). T (positive (ofFields binary32 false k (n % 8388608)))) z (subst (λ (y : Float). T (positive y)) (fields n half) p')))
+
+-- a float's units are its pattern's
+pub own-units : (w : Float) → T (fits binary32 w) → T (positive w) → unitsOf w ≡ units (toBits binary32 w)
+own-units w f p = ap unitsOf (sym (ofBits-toBits binary32 w f)) ∙ bits-units (toBits binary32 w) (positive-bits w f p .1)

@@ -1,0 +1,39 @@
+-- Document 01's table, "Refusal numbers": for each way of being wrong its number and its place.
+use Prim.Native.Nat.{ℕ}
+use Rattle.refusal.specs.declared.Refusal.{Refusal}
+use Rattle.refusal.specs.declared.Refusal.the-variants.{Unpaired, OverLimit, ParameterNan, OutOfRange, NoSuchCorner, NoSuchClass, CornerTwice, TwinPastEnd, TwinNotBack, TwinElsewhere, WorkspaceShort, RecordsShort, EntriesShort}
+
+-- 1 paired lists differ in length, or a list of records is not whole; 2 a count is over its limit; 3 a parameter is NaN;
+-- 4 a number is out of its range; 5 a corner that does not exist, or a class above 2; 6 a corner named twice;
+-- 7 a twin that is past the end, does not point back, or does not run between the same corners the other way;
+-- 8 workspace, 9 a list of records, 10 the entry list too short
+abbrev pub numberOf : Refusal → ℕ
+numberOf Unpaired = 1
+numberOf OverLimit = 2
+numberOf (ParameterNan parameter) = 3
+numberOf (OutOfRange corner) = 4
+numberOf (NoSuchCorner position) = 5
+numberOf (NoSuchClass position) = 5
+numberOf (CornerTwice cell) = 6
+numberOf (TwinPastEnd edge twin) = 7
+numberOf (TwinNotBack edge twin) = 7
+numberOf (TwinElsewhere edge twin) = 7
+numberOf (WorkspaceShort words) = 8
+numberOf (RecordsShort records) = 9
+numberOf (EntriesShort entries) = 10
+
+-- 0; the parameter's number; the corner, else 0; the position in its list; the triangle or quad; the half-edge; the words, records or entries wanted
+abbrev pub placeOf : Refusal → ℕ
+placeOf Unpaired = 0
+placeOf OverLimit = 0
+placeOf (ParameterNan parameter) = parameter
+placeOf (OutOfRange corner) = corner
+placeOf (NoSuchCorner position) = position
+placeOf (NoSuchClass position) = position
+placeOf (CornerTwice cell) = cell
+placeOf (TwinPastEnd edge twin) = edge
+placeOf (TwinNotBack edge twin) = edge
+placeOf (TwinElsewhere edge twin) = edge
+placeOf (WorkspaceShort words) = words
+placeOf (RecordsShort records) = records
+placeOf (EntriesShort entries) = entries

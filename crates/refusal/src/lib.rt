@@ -1,0 +1,63 @@
+// The rows of document 01's refusal table as one enum, with the number and the place that the table gives each.
+// A call that refuses answers one of these; callers print, count and compare the number and the place.
+ghost use mathlib.Core.Path.{_≡_};
+ghost use Rattle.refusal.specs.Table.{numberOf, placeOf};
+
+// What was wrong with the input. A number beside it is what the table calls the place; a twin fault also has the twin's value.
+pub enum Refusal {
+    Unpaired,
+    OverLimit,
+    ParameterNan(u32),
+    OutOfRange(u32),
+    NoSuchCorner(u32),
+    NoSuchClass(u32),
+    CornerTwice(u32),
+    TwinPastEnd(u32, u32),
+    TwinNotBack(u32, u32),
+    TwinElsewhere(u32, u32),
+    WorkspaceShort(u32),
+    RecordsShort(u32),
+    EntriesShort(u32),
+}
+
+// The row's number.
+pub fn number(refusal: Refusal) -> u32
+    ensures { λ r. ⌜ r ≡ numberOf refusal ⌝ }
+{
+    match refusal {
+        Refusal::Unpaired => 1,
+        Refusal::OverLimit => 2,
+        Refusal::ParameterNan(_) => 3,
+        Refusal::OutOfRange(_) => 4,
+        Refusal::NoSuchCorner(_) => 5,
+        Refusal::NoSuchClass(_) => 5,
+        Refusal::CornerTwice(_) => 6,
+        Refusal::TwinPastEnd(_, _) => 7,
+        Refusal::TwinNotBack(_, _) => 7,
+        Refusal::TwinElsewhere(_, _) => 7,
+        Refusal::WorkspaceShort(_) => 8,
+        Refusal::RecordsShort(_) => 9,
+        Refusal::EntriesShort(_) => 10,
+    }
+}
+
+// The row's place.
+pub fn place(refusal: Refusal) -> u32
+    ensures { λ r. ⌜ r ≡ placeOf refusal ⌝ }
+{
+    match refusal {
+        Refusal::Unpaired => 0,
+        Refusal::OverLimit => 0,
+        Refusal::ParameterNan(parameter) => parameter,
+        Refusal::OutOfRange(corner) => corner,
+        Refusal::NoSuchCorner(position) => position,
+        Refusal::NoSuchClass(position) => position,
+        Refusal::CornerTwice(cell) => cell,
+        Refusal::TwinPastEnd(edge, _) => edge,
+        Refusal::TwinNotBack(edge, _) => edge,
+        Refusal::TwinElsewhere(edge, _) => edge,
+        Refusal::WorkspaceShort(words) => words,
+        Refusal::RecordsShort(records) => records,
+        Refusal::EntriesShort(entries) => entries,
+    }
+}
