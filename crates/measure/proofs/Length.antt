@@ -1,11 +1,10 @@
 -- For differences in reach the root of the sum of squares is known, and so the length is that root. Assumes nothing.
-use mathlib.Core.Path.{_≡_, refl, sym, ap, _∙_, subst}
+use mathlib.Core.Path.{_≡_, refl, sym, subst}
 use mathlib.Core.Bool.{true, false}
 use Prim.Native.Nat.{ℕ, zero, suc, _+_, _*_}
 use lib.IntN.{ℤ}
 use lib.Ieee.{Float, fin, binary32, mul, round}
-use Rattle.measure.specs.declared.Measured.{Measured}
-use Rattle.measure.specs.declared.Measured.the-variants.{Known, Refused}
+use Rattle.measure.specs.declared.Measured.the-variants.{Known}
 use Rattle.measure.specs.Length.{squares, orZero, lengthOf}
 use Rattle.measure.specs.Position.{inReach}
 use Rattle.measure.specs.RootComputed.{rootOf}

@@ -18,3 +18,5 @@ pub mod NoTie
 pub mod RootRule
 pub mod RootComputed
 pub mod Length
+pub mod Examples
+pub mod Worked

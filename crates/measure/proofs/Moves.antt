@@ -1,14 +1,14 @@
 -- Powers of two moved from one side of a product to the other, and the ranges of the parts of a pattern. Assumes nothing.
-use mathlib.Core.Path.{_≡_, refl, sym, ap, _∙_, subst}
-use mathlib.Core.Bool.{Bool, true, false, cond}
-use Prim.Native.Nat.{ℕ, _+_, _-_, _*_, _/_, _%_, _^_, _≤_, _<_}
+use mathlib.Core.Path.{_≡_, refl, sym, ap, _∙_}
+use mathlib.Core.Bool.{Bool, true, false}
+use Prim.Native.Nat.{ℕ, _+_, _-_, _*_, _%_, _^_, _≤_, _<_}
 use native.Mathlib.Nat.{mul-assoc, mul-comm, mul-le-mul-right, le-trans, le-of-eq, lt-of-lt-of-le, lt-of-le-of-lt, one-mul, mod-eq-of-lt, lt-irrefl}
 use native.Mathlib.Omega.{arith}
-use borrow.Author.Tests.{lt-ltb, le-ltb, ltb-true, ltb-false}
-use lib.Dec.{ltb, lit<, lit≤}
+use borrow.Author.Tests.{ltb-true, ltb-false}
+use lib.Dec.{ltb, lit≤}
 use lib.Pow.{pow-add, pow-mono}
-use Rattle.measure.specs.Pattern.{sigOf, expOf, units, RootBits}
-use Rattle.measure.proofs.Patterns.{small-sig, small-exp, large-sig, large-exp, units-is}
+use Rattle.measure.specs.Pattern.{sigOf, expOf}
+use Rattle.measure.proofs.Patterns.{small-sig, small-exp, large-sig, large-exp}
 
 pub halved : (j z k f : ℕ) → f ≡ j + (k + k) → z * 2 ^ j * (2 ^ k * 2 ^ k) ≡ z * 2 ^ f
 halved j z k f e = rw (e, pow-add 2 j (k + k), pow-add 2 k k, mul-assoc z (2 ^ j) (2 ^ k * 2 ^ k))

@@ -1,16 +1,15 @@
 -- The multiples of floats are the units of the patterns up to an infinity's, so a pattern's neighbours are the next ones in order. Assumes nothing.
-use mathlib.Core.Path.{_≡_, refl, sym, ap, _∙_, subst}
+use mathlib.Core.Path.{_≡_, refl, ap, _∙_, subst}
 use mathlib.Core.Bool.{Bool, true, false}
 use Prim.Native.Nat.{ℕ, zero, suc, _+_, _-_, _*_, _/_, _^_, _≤_, _<_}
 use native.Mathlib.Nat.{le-antisymm, le-of-lt, le-refl, zero-lt-suc, zero-mul, zero-div}
 use native.Mathlib.Omega.{arith}
 use borrow.Author.Tests.{ltb-true, ltb-false}
-use lib.Dec.{T, ltb, lt→ltb, lit<}
+use lib.Dec.{T, ltb, lt→ltb}
 use lib.IntN.{ℤ}
 use lib.Ieee.{Float, nan, inf, fin, binary32, ofBits, toBits, fits, up, down}
 use lib.Ieee.Bits.{ofBits-fits}
 use lib.Ieee.Exact.{HasValue}
-use lib.Ieee.Fits.{down-pos}
 use lib.Ieee.Scale.{finite}
 use Rattle.measure.specs.Pattern.{sigOf, expOf, units}
 use Rattle.measure.specs.Root.{unitsOf, Multiple, float, beyond, NextBelow, NextAbove}

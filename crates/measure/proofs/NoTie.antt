@@ -3,7 +3,7 @@
 use mathlib.Core.Path.{_≡_, refl, sym, ap, _∙_, subst}
 use mathlib.Core.Bool.{Bool, true, false}
 use Prim.Native.Nat.{ℕ, suc, _+_, _-_, _*_, _^_, _≤_, _<_}
-use native.Mathlib.Nat.{add-mul, mul-assoc, mul-comm, mul-left-comm, mul-one, one-mul, le-trans, le-of-eq, lt-irrefl, lt-of-lt-of-le, mul-le-mul-left, eq-of-mul-eq-mul-right, pow-succ'}
+use native.Mathlib.Nat.{add-mul, mul-assoc, mul-comm, mul-left-comm, mul-one, one-mul, le-trans, le-of-eq, mul-le-mul-left, eq-of-mul-eq-mul-right, pow-succ'}
 use native.Mathlib.Omega.{arith}
 use borrow.Author.Tests.{ltb-true, ltb-false}
 use lib.Dec.{T, ltb}
@@ -13,7 +13,7 @@ use lib.Ieee.Positive.{positive}
 use Rattle.measure.specs.Pattern.{sigOf, expOf, units}
 use Rattle.measure.specs.Root.{unitsOf, Multiple, NextAbove}
 use Rattle.measure.proofs.Squares.{square-odd, square-scale}
-use Rattle.measure.proofs.Patterns.{small-sig, small-exp, large-sig, large-exp, units-is, units-step, units-mono, units-order}
+use Rattle.measure.proofs.Patterns.{small-sig, small-exp, large-sig, units-is, units-step, units-order}
 use Rattle.measure.proofs.PatternFloats.{own-units}
 use Rattle.measure.proofs.Neighbours.{multiple-pattern, next-above, above-unique}
 

@@ -1,7 +1,7 @@
 -- From patterns to floats: a pattern below an infinity's is a float of that many units, and a float above 0 has such a pattern. Assumes nothing.
 use mathlib.Core.Path.{_≡_, refl, sym, ap, _∙_, subst}
 use mathlib.Core.Bool.{Bool, true, false, cond, not}
-use Prim.Native.Nat.{ℕ, zero, suc, _+_, _-_, _*_, _/_, _%_, _^_, _≤_, _<_}
+use Prim.Native.Nat.{ℕ, suc, _+_, _-_, _*_, _/_, _%_, _^_, _<_}
 use native.Mathlib.Nat.{mod-eq-of-lt, mul-div-cancel, add-comm, lt-irrefl}
 use native.Mathlib.Omega.{arith}
 use borrow.Author.Tests.{lt-leb, leb-false, ltb-true, ltb-false, ne-eqb}
@@ -12,7 +12,7 @@ use lib.Ieee.Exact.{HasValue, odd-sign}
 use lib.Ieee.Fits.{down-pos}
 use lib.Ieee.Positive.{positive}
 use Rattle.measure.specs.Float.{signOf}
-use Rattle.measure.specs.Pattern.{sigOf, expOf, units}
+use Rattle.measure.specs.Pattern.{units}
 use Rattle.measure.specs.Root.{unitsOf}
 use Rattle.measure.proofs.Sign.{sign-of-bits}
 use Rattle.measure.proofs.Patterns.{small-sig, small-exp, large-sig, large-exp, units-is}

@@ -1,15 +1,14 @@
 -- Patterns and their units: k * 2 ^ 23 + q stands for q * 2 ^ k units, and the next pattern for 2 ^ exponent more. Assumes nothing.
 use mathlib.Core.Path.{_≡_, refl, sym, ap, _∙_, subst}
-use mathlib.Core.Bool.{Bool, true, false, cond}
+use mathlib.Core.Bool.{Bool, true, false}
 use Prim.Native.Nat.{ℕ, zero, suc, _+_, _-_, _*_, _/_, _%_, _^_, _≤_, _<_}
-use native.Mathlib.Nat.{add-mul, mul-add, mul-comm, mul-assoc, mul-le-mul, mul-le-mul-right, mul-le-mul-left, le-trans, le-of-eq, le-of-lt, mul-one, one-mul, pow-succ', add-zero, le-refl, le-add-right, add-suc, lt-irrefl, lt-of-lt-of-le}
+use native.Mathlib.Nat.{add-mul, le-trans, one-mul, pow-succ', add-zero, le-refl, le-add-right, add-suc, lt-irrefl, lt-of-lt-of-le}
 use native.Mathlib.Numerals.{add-one}
 use native.Mathlib.Omega.{arith}
 use borrow.Author.Tests.{lt-ltb, le-ltb, ltb-true, ltb-false}
 use lib.Dec.{ltb}
 use lib.Pow.{pow-pos}
-use Rattle.measure.specs.Pattern.{sigOf, expOf, units, Near, RootBits}
-use Rattle.measure.proofs.Squares.{square-le, square-scale, square-odd}
+use Rattle.measure.specs.Pattern.{sigOf, expOf, units}
 
 pub small-sig : (b : ℕ) → b < 8388608 → sigOf b ≡ b
 unfolding sigOf

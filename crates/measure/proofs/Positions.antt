@@ -1,11 +1,10 @@
 -- Inside a frame no angle and no length is refused: a difference of two positions is in reach, a centroid of four is a position. Assumes nothing.
-use mathlib.Core.Path.{_≡_, refl, sym, ap, _∙_, subst}
-use mathlib.Core.Bool.{Bool, true, false, _&&_}
-use Prim.Native.Nat.{ℕ, _+_, _*_, _^_}
-use lib.Ieee.{Float, fin, binary32, add, sub, round, ofBits}
+use mathlib.Core.Path.{_≡_, refl}
+use mathlib.Core.Bool.{true, false}
+use lib.Ieee.{Float, fin, binary32, add, sub, round}
 use lib.IntN.{pos}
 use Rattle.measure.specs.declared.Measured.the-variants.{Known}
-use Rattle.measure.specs.Float.{fraction, within}
+use Rattle.measure.specs.Float.{fraction}
 use Rattle.measure.specs.Position.{isPosition, inReach, centroidOf}
 use Rattle.measure.specs.Angle.{angleOf, angleRule, reached}
 use Rattle.measure.proofs.Rounding.{Bounded, Exact}

@@ -1,15 +1,14 @@
 -- The rest of x by pi, where x is below two pi in magnitude, is x itself or a sum: no division. Assumes nothing.
-use mathlib.Core.Path.{_≡_, refl, sym, ap, _∙_, subst}
-use mathlib.Core.Bool.{Bool, true, false, cond, false≢true}
-use Prim.Native.Nat.{ℕ, zero, suc, _+_, _-_, _*_, _%_, _^_, _≤_, _<_}
+use mathlib.Core.Path.{_≡_, sym, ap, _∙_}
+use mathlib.Core.Bool.{Bool, true, false, false≢true}
+use Prim.Native.Nat.{ℕ, _+_, _-_, _*_, _%_, _≤_, _<_}
 use native.Mathlib.Nat.{mul-assoc, mul-comm, mul-pos, mod-eq-of-lt, mod-eq-sub-mod}
 use native.Mathlib.Omega.{arith}
 use borrow.Author.Tests.{ltb-true, ltb-false, lt-ltb, le-ltb}
-use lib.Dec.{T, ltb, lit<}
-use lib.IntN.{ℤ, pos, negsuc}
-use lib.Ieee.{Float, nan, inf, fin, binary32, up, down, round, odd, units, fits, rem, sub, add, sum, neg, lt, ofBits}
-use lib.Ieee.Fits.{down-pos, round-is}
-use lib.Ieee.Order.{drop, kept}
+use lib.Dec.{T, lit<}
+use lib.IntN.{ℤ}
+use lib.Ieee.{Float, nan, inf, fin, binary32, up, down, round, fits, rem, sub, add, sum, neg, lt, ofBits}
+use lib.Ieee.Fits.{down-pos}
 use lib.Ieee.Scale.{round-same}
 use Rattle.measure.proofs.Own.{round-own}
 use Rattle.measure.proofs.Rounding.{round-neg}

@@ -1,20 +1,19 @@
 -- `rootOf`, which computes, is an answer of the Root rule, and so the only one. Assumes nothing.
 use mathlib.Core.Path.{_≡_, refl, sym, ap, _∙_, subst}
 use mathlib.Core.Bool.{Bool, true, false, cond}
-use Prim.Native.Nat.{ℕ, zero, suc, zero-le, _+_, _-_, _*_, _/_, _%_, _^_, _≤_, _<_}
-use native.Mathlib.Nat.{add-assoc, le-refl, le-trans, le-of-lt, lt-irrefl, lt-of-lt-of-le, lt-of-le-of-lt, mul-le-mul-left, mul-one, pow-succ', two-mul, zero-lt-suc, add-le-add, le-add-left}
+use Prim.Native.Nat.{ℕ, zero, suc, zero-le, _+_, _-_, _*_, _^_, _≤_, _<_}
+use native.Mathlib.Nat.{add-assoc, le-trans, le-of-lt, lt-irrefl, lt-of-lt-of-le, lt-of-le-of-lt, mul-le-mul-left, pow-succ', two-mul, zero-lt-suc, add-le-add, le-add-left}
 use native.Mathlib.Omega.{arith}
 use borrow.Author.Tests.{ltb-true, ltb-false, leb-true, leb-false, lt-leb, le-leb}
-use lib.Dec.{T, ltb, leb, lit<, lit≤, lt→ltb}
+use lib.Dec.{T, ltb, lit<, lit≤, lt→ltb}
 use lib.Ieee.{Float, nan, inf, fin, binary32, ofBits, toBits, fits}
 use lib.Pow.{pow-pos}
 use lib.Ieee.Bits.{ofBits-toBits}
 use lib.Ieee.Exact.{HasValue}
 use lib.Ieee.Positive.{positive, value-pos}
 use Rattle.measure.specs.declared.Measured.{Measured}
-use Rattle.measure.specs.declared.Measured.the-variants.{Known, Refused}
 use Rattle.measure.specs.Pattern.{sigOf, expOf, units, RootBits}
-use Rattle.measure.specs.Root.{unitsOf, IsRoot, RootOf}
+use Rattle.measure.specs.Root.{unitsOf, RootOf}
 use Rattle.measure.specs.RootComputed.{greatest, reaches, rootPattern, rootOf}
 use Rattle.measure.proofs.Squares.{square-le}
 use Rattle.measure.proofs.Patterns.{units-mono}

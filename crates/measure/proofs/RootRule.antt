@@ -15,8 +15,8 @@ use lib.Ieee.Positive.{positive, positive-of-value}
 use Rattle.measure.specs.declared.Measured.{Measured}
 use Rattle.measure.specs.declared.Measured.the-variants.{Known, Refused}
 use Rattle.refusal.specs.declared.Refusal.the-variants.{OutOfRange}
-use Rattle.measure.specs.Pattern.{sigOf, expOf, units, RootBits}
-use Rattle.measure.specs.Root.{unitsOf, NextBelow, NextAbove, IsRoot, RootOf}
+use Rattle.measure.specs.Pattern.{expOf, units, RootBits}
+use Rattle.measure.specs.Root.{NextBelow, NextAbove, IsRoot, RootOf}
 use Rattle.measure.proofs.Squares.{square-le}
 use Rattle.measure.proofs.Patterns.{large-sig, units-is, units-mono}
 use Rattle.measure.proofs.PatternFloats.{bits-value, bits-units, own-units, positive-bits}

@@ -5,7 +5,7 @@ use mathlib.Core.Logic.{_⊎_, inl, inr, ⊎-elim}
 use Prim.Native.Nat.{ℕ, zero, suc, _*_, _^_, _≤_, _<_}
 use native.Mathlib.Nat.{le-trans, le-of-eq, le-of-lt, mul-one}
 use borrow.Author.Tests.{ltb-true, ltb-false, eqb-true, le-ltb}
-use lib.Dec.{T, ltb, eqb, lit<}
+use lib.Dec.{ltb, eqb, lit<}
 use lib.IntN.{ℤ, pos}
 use lib.Ieee.{Float, nan, inf, fin, binary32, neg, round, odd, units, le, lt, eq, up, down}
 use lib.Ieee.Bits.{is-true}

@@ -6,3 +6,5 @@ pub mod Root
 pub mod Pattern
 pub mod RootComputed
 pub mod Length
+pub mod Examples
+pub mod Worked

@@ -52,7 +52,10 @@ pub fn angle_rule(dx: f32, dy: f32) -> f32
     ensures { λ r. ⌜ r ≡ angleRule dx dy ⌝ }
 {
     let base = octant::octant(octant::magnitude(dx), octant::magnitude(dy));
-    octant::below(octant::sign_bit(dy), octant::across(octant::sign_bit(dx), base))
+    octant::below(
+        octant::sign_bit(dy),
+        octant::across(octant::sign_bit(dx), base),
+    )
 }
 
 // The length of the difference (dx, dy). Of differences of positions the root is known; of any other pair without a root this is 0.

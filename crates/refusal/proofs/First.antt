@@ -1,7 +1,7 @@
 -- "First offender, or none" has one answer, and `firstOf` computes it. Assumes nothing.
-use mathlib.Core.Path.{_≡_, refl, sym, ap, _∙_}
+use mathlib.Core.Path.{_≡_, refl, sym, _∙_}
 use mathlib.Core.Bool.{Bool, true, false, cond}
-use Prim.Native.Nat.{ℕ, zero, suc, zero-le, suc-le-suc, _<_, _≤_}
+use Prim.Native.Nat.{ℕ, zero, suc, zero-le, suc-le-suc, _<_}
 use native.Mathlib.Nat.{lt-of-lt-of-le, le-of-suc-le-suc, not-suc-le-zero}
 use native.Mathlib.Omega.{arith}
 use borrow.Author.Tests.{ltb-true, ltb-false}

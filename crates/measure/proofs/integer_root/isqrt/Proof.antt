@@ -1,5 +1,5 @@
 -- `isqrt` is the integer root. The guess never falls below the root, and a guess whose square is above n falls.
-use Prim.Native.Nat.{ℕ, _≤_, _<_, _+_, _*_, _/_}
+use Prim.Native.Nat.{_≤_, _<_, _+_, _*_}
 use native.Mathlib.Nat.{le-trans, le-of-lt, lt-of-le-of-lt, div-le-self}
 use native.Mathlib.Omega.{arith}
 use borrow.Author.Needs.{needs}

@@ -1,5 +1,4 @@
 use Rattle.measure.specs.Angle.{acrossOf}
-use borrow.Author.Needs.{needs}
 use Rattle.measure.proofs.octant.across.Statement.{statement}
 use Rattle.measure.proofs.octant.across.Tie as tie
 

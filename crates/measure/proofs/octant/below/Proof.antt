@@ -1,5 +1,4 @@
 use Rattle.measure.specs.Angle.{belowOf}
-use borrow.Author.Needs.{needs}
 use Rattle.measure.proofs.octant.below.Statement.{statement}
 use Rattle.measure.proofs.octant.below.Tie as tie
 

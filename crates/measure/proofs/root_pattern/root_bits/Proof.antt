@@ -1,8 +1,8 @@
 use Rattle.measure.proofs.Moves.{moved, sig-pos, exp-le, room-lt, kept}
 use Rattle.measure.proofs.Patterns.{units-is}
-use Rattle.measure.specs.Pattern.{sigOf, expOf, units, RootBits}
+use Rattle.measure.specs.Pattern.{sigOf, units, RootBits}
 use native.Mathlib.Omega.{arith}
-use Prim.Native.Nat.{ℕ, _+_, _-_, _*_, _/_, _%_, _^_, _<_, _≤_}
+use Prim.Native.Nat.{ℕ, _+_, _-_, _*_, _%_, _^_, _<_, _≤_}
 use mathlib.Core.Path.{_≡_, sym, ap, _∙_, subst}
 use borrow.Author.Needs.{needs}
 use Rattle.measure.proofs.root_pattern.root_bits.Statement.{statement}
