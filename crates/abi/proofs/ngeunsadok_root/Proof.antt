@@ -1,0 +1,18 @@
+-- The call's answer, told.
+use mathlib.Core.Path.{ap, _∙_}
+use Rattle.abi.specs.Answers.{numberFrom}
+use borrow.Author.Needs.{needs}
+use Rattle.abi.proofs.ngeunsadok_root.Statement.{statement}
+use Rattle.abi.proofs.ngeunsadok_root.Tie as tie
+
+root-requires : tie.Need-root-requires
+root-requires c κs = search needs
+
+tell-number-requires : tie.Need-tell-number-requires
+tell-number-requires c κs = search needs
+
+returns : tie.Need-returns
+returns c = c .tell-number .ensures ∙ ap numberFrom (c .before .root .ensures .1)
+
+pub ngeunsadok-root-spec : {M : Type 1} → statement M
+ngeunsadok-root-spec = tie.close (tie.spec root-requires tell-number-requires returns)
