@@ -1,17 +1,19 @@
 -- From patterns to floats: a pattern below an infinity's is a float of that many units, and a float above 0 has such a pattern. Assumes nothing.
 use mathlib.Core.Path.{_≡_, refl, sym, ap, _∙_, subst}
 use mathlib.Core.Bool.{Bool, true, false, cond, not}
-use Prim.Native.Nat.{ℕ, suc, _+_, _-_, _*_, _/_, _%_, _^_, _<_}
-use native.Mathlib.Nat.{mod-eq-of-lt, mul-div-cancel, add-comm, lt-irrefl}
+use Prim.Native.Nat.{ℕ, zero, suc, _+_, _-_, _*_, _/_, _%_, _^_, _<_}
+use native.Mathlib.Nat.{mod-eq-of-lt, mul-div-cancel, add-comm, lt-irrefl, zero-mul, zero-div, zero-lt-suc}
 use native.Mathlib.Omega.{arith}
 use borrow.Author.Tests.{lt-leb, leb-false, ltb-true, ltb-false, ne-eqb}
-use lib.Dec.{T, ltb, eqb}
-use lib.Ieee.{Float, nan, inf, fin, binary32, odd, ofFields, ofBits, toBits, isNan, nanBits, fits, down}
-use lib.Ieee.Bits.{ofBits-toBits, toBits-ofBits, nanBits-is}
+use lib.Dec.{T, ltb, eqb, lt→ltb}
+use lib.IntN.{ℤ}
+use lib.Ieee.{Float, nan, inf, fin, binary32, odd, ofFields, ofBits, toBits, isNan, nanBits, fits, up, down}
+use lib.Ieee.Bits.{ofBits-toBits, nanBits-is}
 use lib.Ieee.Exact.{HasValue, odd-sign}
 use lib.Ieee.Fits.{down-pos}
 use lib.Ieee.Positive.{positive}
-use Rattle.measure.specs.Float.{signOf}
+use lib.Ieee.Scale.{finite}
+use Rattle.measure.specs.Float.{signOf, absOf}
 use Rattle.measure.specs.Pattern.{units}
 use Rattle.measure.specs.Root.{unitsOf}
 use Rattle.measure.proofs.Sign.{sign-of-bits}
@@ -72,9 +74,6 @@ bits-no-nan b h = value-no-nan (ofBits binary32 b) false (units b) (2 ^ 149) (bi
 pub bits-fine : (b : ℕ) → b < 2139095040 → T (not (nanBits binary32 b))
 bits-fine b h = subst (λ (t : Bool). T (not t)) (sym (nanBits-is binary32 b)) (bits-no-nan b h)
 
-pub bits-back : (b : ℕ) → b < 2139095040 → toBits binary32 (ofBits binary32 b) ≡ b
-bits-back b h = let l : b < 4294967296 = omega arith in toBits-ofBits binary32 b l (bits-no-nan b h)
-
 -- ---- the pattern of a float above 0 and finite
 
 pub positive-no-nan : (x : Float) → T (positive x) → T (not (isNan x))
@@ -133,3 +132,21 @@ positive-bits x f p = (least (ltb 0 b) refl, most (ltb b 2139095040) refl)
 -- a float's units are its pattern's
 pub own-units : (w : Float) → T (fits binary32 w) → T (positive w) → unitsOf w ≡ units (toBits binary32 w)
 own-units w f p = ap unitsOf (sym (ofBits-toBits binary32 w f)) ∙ bits-units (toBits binary32 w) (positive-bits w f p .1)
+
+-- ---- nothing is cut off: a finite float's magnitude is exactly its units
+
+none-exact : (e : ℤ) → zero * up e * 2 ^ 149 ≡ zero * up e * 2 ^ 149 / down e * down e
+none-exact e =
+    let n : zero * up e * 2 ^ 149 ≡ 0 = ap (λ (k : ℕ). k * 2 ^ 149) (zero-mul (up e)) ∙ zero-mul (2 ^ 149) in
+    n ∙ sym (ap (λ (k : ℕ). k / down e * down e) n ∙ ap (λ (k : ℕ). k * down e) (zero-div (down e)) ∙ zero-mul (down e))
+
+pub whole-multiple : (x : Float) → T (fits binary32 x) → T (finite x) → HasValue (absOf x) false (unitsOf x) (2 ^ 149)
+unfolding unitsOf fits
+whole-multiple nan f h = absurd h
+whole-multiple (inf s) f h = absurd h
+whole-multiple (fin s zero e) f h = (refl, none-exact e)
+whole-multiple (fin s (suc m) e) f h =
+    let x = fin false (suc m) e in
+    let p : T (positive (fin false (suc m) e)) = lt→ltb 0 (suc m) (zero-lt-suc m) in
+    subst (λ (n : ℕ). HasValue x false n (2 ^ 149)) (sym (own-units x f p))
+    (subst (λ (y : Float). HasValue y false (units (toBits binary32 x)) (2 ^ 149)) (ofBits-toBits binary32 x f) (bits-value (toBits binary32 x) (positive-bits x f p .1)))

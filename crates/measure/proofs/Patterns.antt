@@ -10,6 +10,8 @@ use lib.Dec.{ltb}
 use lib.Pow.{pow-pos}
 use Rattle.measure.specs.Pattern.{sigOf, expOf, units}
 
+-- ---- the parts of a pattern, below and from 2^23 on
+
 pub small-sig : (b : ℕ) → b < 8388608 → sigOf b ≡ b
 unfolding sigOf
 small-sig b h = rw (lt-ltb b 8388608 h)

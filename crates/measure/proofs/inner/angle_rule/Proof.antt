@@ -1,3 +1,4 @@
+-- `angle_rule` is `angleRule`: each step is the definition's.
 use Rattle.measure.specs.Angle.{angleRule}
 use borrow.Author.Needs.{needs}
 use Rattle.measure.proofs.inner.angle_rule.Statement.{statement}

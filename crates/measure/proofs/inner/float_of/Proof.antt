@@ -1,3 +1,4 @@
+-- `float_of` is `ofBits`: a pattern of a NaN gives the one NaN, any other its own float.
 use Rattle.measure.proofs.Words.{nan-bits, fine-bits}
 use borrow.Author.Needs.{needs}
 use Rattle.measure.proofs.inner.float_of.Statement.{statement}

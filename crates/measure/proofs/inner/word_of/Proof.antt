@@ -1,3 +1,4 @@
+-- `word_of` is `toBits`: a NaN's word is the one that `toBits` writes.
 use Rattle.measure.proofs.Words.{equal-no-nan, nan-word}
 use borrow.Author.Needs.{needs}
 use Rattle.measure.proofs.inner.word_of.Statement.{statement}

@@ -1,3 +1,4 @@
+-- `across` is `acrossOf`, by the same test.
 use Rattle.measure.specs.Angle.{acrossOf}
 use Rattle.measure.proofs.octant.across.Statement.{statement}
 use Rattle.measure.proofs.octant.across.Tie as tie

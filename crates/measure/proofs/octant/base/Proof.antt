@@ -1,3 +1,4 @@
+-- `base` is `baseOf`, by the same test.
 use Rattle.measure.specs.Angle.{baseOf}
 use borrow.Author.Needs.{needs}
 use Rattle.measure.proofs.octant.base.Statement.{statement}

@@ -1,3 +1,4 @@
+-- `below` is `belowOf`, by the same test.
 use Rattle.measure.specs.Angle.{belowOf}
 use Rattle.measure.proofs.octant.below.Statement.{statement}
 use Rattle.measure.proofs.octant.below.Tie as tie

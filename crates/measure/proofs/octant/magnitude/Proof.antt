@@ -1,3 +1,4 @@
+-- `magnitude` is `absOf`: the float itself or its negation, by the sign bit.
 use mathlib.Core.Path.{sym, _∙_}
 use borrow.Author.Needs.{needs}
 use Rattle.measure.proofs.Sign.{abs-set, abs-clear}

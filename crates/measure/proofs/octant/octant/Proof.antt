@@ -1,3 +1,4 @@
+-- `octant` is `octantOf`: one test picks hi and lo and the turn.
 use Rattle.measure.specs.Angle.{octantOf}
 use borrow.Author.Needs.{needs}
 use Rattle.measure.proofs.octant.octant.Statement.{statement}

@@ -1,3 +1,4 @@
+-- `part` is `partOf`, over `series`.
 use Rattle.measure.specs.Angle.{partOf}
 use borrow.Author.Needs.{needs}
 use Rattle.measure.proofs.octant.part.Statement.{statement}

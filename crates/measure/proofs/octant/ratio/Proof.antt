@@ -1,3 +1,4 @@
+-- `ratio` is `ratioOf`: the literal is 53/128.
 use Rattle.measure.proofs.Reciprocals.{p1, bend}
 use Rattle.measure.specs.Angle.{ratioOf}
 use borrow.Author.Needs.{needs}

@@ -1,3 +1,4 @@
+-- `is_positive` is `positive`, by two comparisons.
 use Rattle.measure.proofs.Ranges.{positive-by}
 use Rattle.measure.proofs.range.is_positive.Statement.{statement}
 use Rattle.measure.proofs.range.is_positive.Tie as tie

@@ -1,3 +1,4 @@
+-- `is_within` is `within`, for a bound above 0.
 use Rattle.measure.proofs.Ranges.{within-by}
 use Rattle.measure.proofs.range.is_within.Statement.{statement}
 use Rattle.measure.proofs.range.is_within.Tie as tie

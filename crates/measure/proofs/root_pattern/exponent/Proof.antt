@@ -1,3 +1,4 @@
+-- `exponent` is `expOf`, by the same test.
 use Rattle.measure.specs.Pattern.{expOf}
 use borrow.Author.Tests.{lt-ltb, le-ltb}
 use borrow.Author.Needs.{needs}

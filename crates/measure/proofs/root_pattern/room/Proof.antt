@@ -1,3 +1,4 @@
+-- `room`: the leading zeros of a significand are how far its highest bit is from bit 31.
 use lib.Count.{leadingZeros, leading-top}
 use lib.Pow.{pow-add, shl-lt}
 use native.Mathlib.Nat.{le-trans, le-of-eq, suc-inj, add-suc, add-comm, mul-le-mul-right}

@@ -1,3 +1,4 @@
+-- `root_bits`: the significand moved to 32 bits and the exponent that goes with it make the units of the pattern, times 2^151.
 use Rattle.measure.proofs.Moves.{moved, sig-pos, exp-le, room-lt, kept}
 use Rattle.measure.proofs.Patterns.{units-is}
 use Rattle.measure.specs.Pattern.{sigOf, units, RootBits}

@@ -1,3 +1,4 @@
+-- `root_of_units`: the power of two is split evenly between the exponent of the answer and the number whose root is taken.
 use Rattle.measure.proofs.Moves.{halved}
 use Rattle.measure.proofs.NearPattern.{near-pattern}
 use Rattle.measure.specs.Pattern.{RootBits}

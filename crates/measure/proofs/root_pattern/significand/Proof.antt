@@ -1,3 +1,4 @@
+-- `significand` is `sigOf`, by the same test.
 use Rattle.measure.specs.Pattern.{sigOf}
 use borrow.Author.Tests.{lt-ltb, le-ltb}
 use borrow.Author.Needs.{needs}

@@ -1,3 +1,4 @@
+-- `fold` is `folded`, by the same test.
 use Rattle.measure.specs.Distance.{folded}
 use Rattle.measure.proofs.turn.fold.Statement.{statement}
 use Rattle.measure.proofs.turn.fold.Tie as tie

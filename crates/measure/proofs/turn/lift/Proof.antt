@@ -1,3 +1,4 @@
+-- `lift` is `lifted`, by the same test.
 use Rattle.measure.specs.Distance.{lifted}
 use Rattle.measure.proofs.turn.lift.Statement.{statement}
 use Rattle.measure.proofs.turn.lift.Tie as tie

@@ -1,3 +1,4 @@
+-- `near_rest` is the rest by pi: in each of the three ranges by its law.
 use mathlib.Core.Path.{sym, subst}
 use lib.Dec.{T}
 use Rattle.measure.proofs.Rest.{rest-small, rest-above, rest-mirror}
