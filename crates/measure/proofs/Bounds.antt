@@ -1,14 +1,14 @@
 -- Bounds on magnitudes go through sums, differences, squares and a quarter, for bounds that are floats. Assumes nothing.
-use mathlib.Core.Path.{_≡_, refl, sym, ap, _∙_}
+use mathlib.Core.Path.{_≡_, refl, sym, ap, _∙_, subst}
 use mathlib.Core.Bool.{Bool, true, false, cond, _&&_, _||_, Bool·beq, false≢true}
-use Prim.Native.Nat.{ℕ, _+_, _-_, _*_, _^_, _≤_, _<_}
-use native.Mathlib.Nat.{le-trans, le-of-eq, mul-le-mul, mul-le-mul-right, mul-one, mul-pos, mul-assoc, mul-comm, mul-mul-mul-comm, add-le-add, add-mul}
+use Prim.Native.Nat.{ℕ, suc, _+_, _-_, _*_, _^_, _≤_, _<_}
+use native.Mathlib.Nat.{le-trans, le-of-eq, mul-le-mul, mul-le-mul-right, mul-one, mul-pos, mul-assoc, mul-comm, mul-mul-mul-comm, add-le-add, add-mul, zero-lt-suc, lt-irrefl}
 use native.Mathlib.Omega.{arith}
-use borrow.Author.Tests.{ltb-false, eq-eqb}
+use borrow.Author.Tests.{ltb-false, eq-eqb, ne-eqb}
 use lib.Dec.{ltb, eqb, lit<}
 use lib.IntN.{ℤ, pos}
 use lib.Ieee.{Float, nan, inf, fin, binary32, neg, add, sub, mul, div, sum, round, le, lt, eq, up, down, unlike}
-use lib.Ieee.Fits.{down-pos}
+use lib.Ieee.Fits.{up-pos, down-pos}
 use Rattle.measure.specs.Float.{within}
 use Rattle.measure.proofs.Rounding.{Small, Bounded, Exact, neg-bounded, le-whole, small-round, bounded-round}
 
@@ -61,6 +61,24 @@ add-bounded i j x y p (s, m, e, f, h) (t, n, d, g, k) =
 pub sub-bounded : (i j : ℕ) (x y : Float) → Exact (i + j) → Bounded i x → Bounded j y → Bounded (i + j) (sub binary32 x y)
 unfolding sub
 sub-bounded i j x y p h k = add-bounded i j x (neg y) p h (neg-bounded j y k)
+
+-- ---- products, and quotients of a number by one that is not 0
+
+pub mul-bounded : (i j : ℕ) (x y : Float) → Exact (i * j) → Bounded i x → Bounded j y → Bounded (i * j) (mul binary32 x y)
+unfolding mul
+mul-bounded i j x y p (s, m, e, f, h) (t, n, d, g, k) =
+    rw (f, g) (bounded-round (i * j) (unlike s t) (m * up e * (n * up d)) (down e * down d) p (mul-pos (down-pos e) (down-pos d)) (le-trans (mul-le-mul h k) (le-of-eq (mul-mul-mul-comm i (down e) j (down d)))))
+
+not-zero : (n : ℕ) → eqb (suc n) 0 ≡ false
+not-zero n = ne-eqb (suc n) 0 (λ q. lt-irrefl 0 (subst (λ (k : ℕ). 0 < k) q (zero-lt-suc n)))
+
+pub div-bounded : (i : ℕ) (s : Bool) (m : ℕ) (e : ℤ) (t : Bool) (n : ℕ) (d : ℤ) → Exact i → m * up e * down d ≤ i * (suc n * up d * down e) → Bounded i (div binary32 (fin s m e) (fin t (suc n) d))
+unfolding div
+div-bounded i s m e t n d p h = rw (not-zero n) (bounded-round i (unlike s t) (m * up e * down d) (suc n * up d * down e) p (mul-pos (mul-pos (zero-lt-suc n) (up-pos d)) (down-pos e)) h)
+
+pub div-small : (i m : ℕ) (e : ℤ) (n : ℕ) (d : ℤ) → Exact i → m * up e * down d ≤ i * (suc n * up d * down e) → Small i (div binary32 (fin false m e) (fin false (suc n) d))
+unfolding div
+div-small i m e n d p h = rw (not-zero n) (small-round i (m * up e * down d) (suc n * up d * down e) p (mul-pos (mul-pos (zero-lt-suc n) (up-pos d)) (down-pos e)) h)
 
 -- ---- a quarter: 4.0 is `fin false 1 (pos 2)`
 

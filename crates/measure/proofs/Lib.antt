@@ -5,6 +5,7 @@ pub mod Rounding
 pub mod Bounds
 pub mod Positions
 pub mod Reciprocals
+pub mod AngleBounds
 pub mod Own
 pub mod Rest
 pub mod Newton

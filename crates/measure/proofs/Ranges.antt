@@ -6,6 +6,7 @@ use native.Mathlib.Nat.{mul-pos, zero-lt-suc}
 use native.Mathlib.Omega.{arith}
 use borrow.Author.Tests.{lt-ltb, le-ltb, eqb-true, eqb-false, eq-eqb, ne-eqb}
 use lib.Dec.{T, ltb, eqb}
+use lib.IntN.{ℤ}
 use lib.Ieee.{Float, nan, inf, fin, binary32, ofBits, isNan, le, lt, eq, ne, neg, div, up, down}
 use lib.Ieee.Fits.{up-pos}
 use lib.Ieee.Positive.{positive}
@@ -44,6 +45,20 @@ positive-by (fin false zero e) = rw (le-ltb (0 * down e) (0 * up e * 1) (omega a
 positive-by (fin false (suc m) e) =
     let p : 0 < suc m * up e = mul-pos (zero-lt-suc m) (up-pos e) in
     rw (lt-ltb (0 * down e) (suc m * up e * 1) (omega arith), lt-ltb 0 (suc m) (zero-lt-suc m))
+
+-- ---- equal to zero, of either sign
+
+some-is-not : (m u d : ℕ) → 0 < u → eqb (suc m * u * 1) (0 * d) ≡ false
+some-is-not m u d h = let p : 0 < suc m * u = mul-pos (zero-lt-suc m) h in ne-eqb (suc m * u * 1) (0 * d) (λ q. omega arith)
+
+pub eq-some : (s : Bool) (m : ℕ) (e : ℤ) → eq (fin s (suc m) e) (ofBits binary32 0) ≡ false
+unfolding eq ofBits
+eq-some s m e = rw (some-is-not m (up e) (down e) (up-pos e))
+
+pub eq-none : (s : Bool) (e : ℤ) → eq (fin s zero e) (ofBits binary32 0) ≡ true
+unfolding eq ofBits
+eq-none true e = let z : 0 * up e * 1 ≡ 0 = omega arith in let y : 0 * down e ≡ 0 = omega arith in rw (z, y)
+eq-none false e = let z : 0 * up e * 1 ≡ 0 = omega arith in let y : 0 * down e ≡ 0 = omega arith in rw (z, y)
 
 -- ---- within a magnitude: x ≤ most and -most ≤ x
 

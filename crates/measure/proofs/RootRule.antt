@@ -4,19 +4,18 @@ use mathlib.Core.Bool.{Bool, true, false, false≢true}
 use Prim.Native.Nat.{ℕ, zero, suc, _+_, _-_, _*_, _%_, _^_, _≤_, _<_}
 use native.Mathlib.Nat.{mul-pos, zero-lt-suc, add-le-add, le-antisymm, le-trans}
 use native.Mathlib.Omega.{arith}
-use borrow.Author.Tests.{lt-ltb, ltb-true, ltb-false, ne-eqb}
-use lib.Dec.{T, ltb, eqb, lt→ltb}
+use borrow.Author.Tests.{lt-ltb, ltb-true, ltb-false}
+use lib.Dec.{T, ltb, lt→ltb}
 use lib.Pow.{pow-pos}
-use lib.IntN.{ℤ}
-use lib.Ieee.{Float, nan, inf, fin, binary32, ofBits, toBits, fits, eq, up, down}
+use lib.Ieee.{Float, nan, inf, fin, binary32, ofBits, toBits, fits, eq}
 use lib.Ieee.Bits.{ofBits-toBits, ofBits-fits}
-use lib.Ieee.Fits.{up-pos}
 use lib.Ieee.Positive.{positive, positive-of-value}
 use Rattle.measure.specs.declared.Measured.{Measured}
 use Rattle.measure.specs.declared.Measured.the-variants.{Known, Refused}
 use Rattle.refusal.specs.declared.Refusal.the-variants.{OutOfRange}
 use Rattle.measure.specs.Pattern.{expOf, units, RootBits}
 use Rattle.measure.specs.Root.{NextBelow, NextAbove, IsRoot, RootOf}
+use Rattle.measure.proofs.Ranges.{eq-some, eq-none}
 use Rattle.measure.proofs.Squares.{square-le}
 use Rattle.measure.proofs.Patterns.{large-sig, units-is, units-mono}
 use Rattle.measure.proofs.PatternFloats.{bits-value, bits-units, own-units, positive-bits}
@@ -51,18 +50,6 @@ positive-case (inf t) y p h = absurd p
 positive-case (fin true m e) y p h = absurd p
 positive-case (fin false zero e) y p h = absurd p
 positive-case (fin false (suc m) e) y p h = (y, refl, h)
-
-some-is-not : (m u d : ℕ) → 0 < u → eqb (suc m * u * 1) (0 * d) ≡ false
-some-is-not m u d h = let p : 0 < suc m * u = mul-pos (zero-lt-suc m) h in ne-eqb (suc m * u * 1) (0 * d) (λ q. omega arith)
-
-eq-some : (s : Bool) (m : ℕ) (e : ℤ) → eq (fin s (suc m) e) (ofBits binary32 0) ≡ false
-unfolding eq ofBits
-eq-some s m e = rw (some-is-not m (up e) (down e) (up-pos e))
-
-eq-none : (s : Bool) (e : ℤ) → eq (fin s zero e) (ofBits binary32 0) ≡ true
-unfolding eq ofBits
-eq-none true e = let z : 0 * up e * 1 ≡ 0 = omega arith in let y : 0 * down e ≡ 0 = omega arith in rw (z, y)
-eq-none false e = let z : 0 * up e * 1 ≡ 0 = omega arith in let y : 0 * down e ≡ 0 = omega arith in rw (z, y)
 
 pub zero-case : (x : Float) → eq x (ofBits binary32 0) ≡ true → RootOf x (Known x)
 unfolding eq ofBits

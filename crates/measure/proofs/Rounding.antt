@@ -47,6 +47,10 @@ pub le-whole : (q k m : ℕ) (e : ℤ) → le (fin false m e) (fin false q (pos 
 unfolding le lt eq
 le-whole q k m e h = le-trans (le-of-eq (sym (mul-one (m * up e)))) (or-le (m * up e * 1) (q * 2 ^ k * down e) true h)
 
+ge-whole : (q k m : ℕ) (e : ℤ) → le (fin false q (pos k)) (fin false m e) ≡ true → q * 2 ^ k * down e ≤ m * up e
+unfolding le lt eq
+ge-whole q k m e h = le-trans (or-le (q * 2 ^ k * down e) (m * up e * 1) true h) (le-of-eq (mul-one (m * up e)))
+
 inf-above : (q k : ℕ) → le (inf false) (fin false q (pos k)) ≡ true → ⊥
 unfolding le lt eq
 inf-above q k h = false≢true h
@@ -75,6 +79,12 @@ small-round n a b (q, k, p, v) c h =
     let l : le (round binary32 false a b) (fin false q (pos k)) ≡ true = subst (λ (y : Float). le (round binary32 false a b) y ≡ true) p (is-true _ (round-mono binary32 a b n 1 c (lit< tt) (le-trans (le-of-eq (mul-one a)) h))) in
     subst (λ (z : ℕ). Small z (round binary32 false a b)) v
     (⊎-elim (λ e. absurd (inf-above q k (subst (λ (y : Float). le y (fin false q (pos k)) ≡ true) e l))) (λ w. of-shape q k (round binary32 false a b) (grid binary32 a b) l w) (shape a b))
+
+-- and a fraction of at least n rounds to at least n, where it rounds to a number
+pub large-round : (n a b m : ℕ) (e : ℤ) → Exact n → 0 < b → n * b ≤ a → round binary32 false a b ≡ fin false m e → n * down e ≤ m * up e
+large-round n a b m e (q, k, p, v) c h f =
+    let l : le (round binary32 false n 1) (round binary32 false a b) ≡ true = is-true _ (round-mono binary32 n 1 a b (lit< tt) c (le-trans h (le-of-eq (sym (mul-one a))))) in
+    subst (λ (z : ℕ). z * down e ≤ m * up e) v (ge-whole q k m e (subst (λ (y : Float). le y (fin false m e) ≡ true) p (subst (λ (y : Float). le (round binary32 false n 1) y ≡ true) f l)))
 
 -- ---- a negative fraction is rounded as its magnitude
 

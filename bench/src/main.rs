@@ -1,0 +1,25 @@
+// `bench` lists its commands: times beside the Rust, and long comparisons, of the archive's calls.
+
+mod archive;
+mod check;
+mod numbers;
+
+const HELP: &str = "\
+bench numbers                 time per root, angle and distance beside the Rust's
+bench check roots             every f32's root beside the machine's own
+bench check pairs COUNT SEED  angles and distances beside document 01's rules in Rust";
+
+fn number(word: Option<&String>, otherwise: u64) -> u64 {
+    word.and_then(|w| w.parse().ok()).unwrap_or(otherwise)
+}
+
+fn main() {
+    let words: Vec<String> = std::env::args().skip(1).collect();
+    let named: Vec<&str> = words.iter().map(String::as_str).collect();
+    match named.as_slice() {
+        ["numbers"] => numbers::run(),
+        ["check", "roots"] => check::roots(),
+        ["check", "pairs", ..] => check::pairs(number(words.get(2), 100_000_000), number(words.get(3), 1)),
+        _ => println!("{HELP}"),
+    }
+}

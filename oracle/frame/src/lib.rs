@@ -1,0 +1,7 @@
+// What goes into a run and what comes out of it, shared by both builds of the original.
+
+mod input;
+mod stages;
+
+pub use input::{Frame, Params, NONE};
+pub use stages::{AxisPair, Component, Entry, Stages};

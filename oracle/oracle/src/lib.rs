@@ -1,0 +1,14 @@
+// The oracle above both builds of the original.
+
+pub mod compare;
+pub mod demand;
+pub mod gap;
+pub mod generate;
+pub mod judge;
+pub mod near;
+pub mod quads_text;
+pub mod random;
+pub mod stages;
+pub mod text;
+pub mod vectors;
+pub mod words;

@@ -1,0 +1,53 @@
+// Vectors for the number calls: inputs and the answers document 01 gives to them.
+
+mod angles;
+mod distances;
+mod roots;
+mod write;
+
+pub use angles::angles;
+pub use distances::distances;
+pub use roots::roots;
+pub use write::write_numbers;
+
+/// Hands out single numbers or pairs by their bits, each once, in the order given.
+#[derive(Default)]
+pub struct Rows<T> {
+    seen: std::collections::HashSet<T>,
+    rows: Vec<T>,
+}
+
+impl<T: Copy + Eq + std::hash::Hash> Rows<T> {
+    pub fn add(&mut self, row: T) {
+        if self.seen.insert(row) {
+            self.rows.push(row);
+        }
+    }
+
+    pub fn len(&self) -> usize {
+        self.rows.len()
+    }
+
+    pub fn is_empty(&self) -> bool {
+        self.rows.is_empty()
+    }
+
+    pub fn done(self) -> Vec<T> {
+        self.rows
+    }
+}
+
+/// Some NaNs: quiet and signalling, several payloads, both signs.
+pub const NANS: [u32; 8] = [
+    0x7FC0_0000,
+    0x7F80_0001,
+    0x7FBF_FFFF,
+    0x7FFF_FFFF,
+    0xFFC0_0000,
+    0xFF80_0001,
+    0xFFD1_2345,
+    0xFFFF_FFFF,
+];
+
+/// The two infinities.
+pub const INFINITIES: [u32; 2] = [0x7F80_0000, 0xFF80_0000];

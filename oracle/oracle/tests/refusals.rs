@@ -1,0 +1,86 @@
+// A damaged frame for each row, with its place; by hand first, then by the generator.
+
+use frame::{Frame, NONE};
+use oracle::generate::{damage::damage, maker};
+use oracle::judge::{judge, Refusal};
+use oracle::random::Random;
+
+/// Two triangles that share a side.
+fn sound() -> Frame {
+    let mut frame = Frame::default();
+    for (x, y) in [(0.0, 0.0), (10.0, 0.0), (10.0, 10.0), (0.0, 10.0)] {
+        frame.add_corner(x, y, [0.0, 1.5], [None, Some(f32::NAN)]);
+    }
+    frame.add_triangle([0, 1, 2], [NONE, NONE, 3]);
+    frame.add_triangle([0, 2, 3], [2, NONE, NONE]);
+    frame
+}
+
+/// What is answered after a change.
+fn after(change: impl Fn(&mut Frame)) -> Option<(u32, u32)> {
+    let mut frame = sound();
+    change(&mut frame);
+    judge(&frame).map(|r| (r.row, r.place))
+}
+
+#[test]
+fn accepted() {
+    assert_eq!(after(|_| {}), None);
+    assert_eq!(after(|f| f.params.ratio = f32::NEG_INFINITY), None);
+    assert_eq!(after(|f| f.x[3] = -1_048_576.0), None);
+    assert_eq!(after(|f| f.angles[0] = f32::NAN), None);
+    assert_eq!(after(|f| *f = Frame::default()), None);
+}
+
+#[test]
+fn rows_1_to_3() {
+    assert_eq!(after(|f| f.y.truncate(3)), Some((1, 0)));
+    assert_eq!(after(|f| f.angles.push(0.0)), Some((1, 0)));
+    assert_eq!(after(|f| f.marks.truncate(1)), Some((1, 0)));
+    assert_eq!(after(|f| f.twins.truncate(3)), Some((1, 0)));
+    let five = |f: &mut Frame| {
+        f.triangles.truncate(5);
+        f.twins.truncate(5);
+    };
+    assert_eq!(after(five), Some((1, 0)));
+    let crowd = |f: &mut Frame, n: usize| {
+        while f.corners() < n {
+            f.add_corner(0.0, 0.0, [0.0; 2], [None; 2]);
+        }
+    };
+    assert_eq!(after(|f| crowd(f, 4_096)), None);
+    assert_eq!(after(|f| crowd(f, 4_097)), Some((2, 0)));
+    assert_eq!(after(|f| f.params.tolerance = f32::NAN), Some((3, 0)));
+    assert_eq!(after(|f| f.params.spread_limit = -f32::NAN), Some((3, 4)));
+}
+
+#[test]
+fn rows_4_to_6() {
+    assert_eq!(after(|f| f.y[2] = f32::INFINITY), Some((4, 2)));
+    assert_eq!(after(|f| f.x[3] = 1_048_576.06), None);
+    assert_eq!(after(|f| f.x[3] = f32::from_bits(0x4980_0001)), Some((4, 3)));
+    assert_eq!(after(|f| f.triangles[5] = 4), Some((5, 5)));
+    assert_eq!(after(|f| f.triangles[4] = 0), Some((6, 1)));
+}
+
+#[test]
+fn row_7() {
+    assert_eq!(after(|f| f.twins[4] = 6), Some((7, 4)));
+    assert_eq!(after(|f| f.twins[2] = 9), Some((7, 2)));
+    assert_eq!(after(|f| f.twins[2] = NONE), Some((7, 3)));
+    assert_eq!(after(|f| f.twins[5] = 5), Some((7, 5)));
+    assert_eq!(after(|f| (f.twins[0], f.twins[1]) = (1, 0)), Some((7, 0)));
+}
+
+#[test]
+fn generated() {
+    let make = maker("warped").unwrap();
+    for i in 0..700 {
+        let mut random = Random::part(7, i);
+        let mut frame = make(20, &mut random);
+        assert_eq!(judge(&frame), None);
+        let row = 1 + (i % 7) as u32;
+        let expected: Refusal = damage(row, &mut frame, &mut random);
+        assert_eq!(judge(&frame), Some(expected), "frame {i}");
+    }
+}

@@ -1,0 +1,124 @@
+// Sits inside the module of the stages, where their inner items can be reached, and runs
+// them in the order in which the original strings them together.
+
+use frame::{AxisPair, Component, Entry, Frame, Stages, NONE};
+use nalgebra::Point2;
+
+use super::axis::{build_axis_caches, AxisCache};
+use super::classify::{classify_all_edges, EdgeClass};
+use super::delaunay::Triangulation;
+use super::filter::{filter_quads_observed, FilterStage};
+use super::quads::{merge_triangle_pairs, Quad};
+use super::walk::{label_components, TopologicalComponent};
+use crate::feature::{LocalAxis, OrientedFeature};
+
+fn positions(frame: &Frame) -> Vec<Point2<f32>> {
+    let points = frame.x.iter().zip(&frame.y);
+    points.map(|(&x, &y)| Point2 { x, y }).collect()
+}
+
+fn features(frame: &Frame) -> Vec<OrientedFeature<2>> {
+    let axis = |slot: usize| LocalAxis {
+        angle_rad: frame.angles[slot],
+        sigma_rad: frame.spread(slot),
+    };
+    (0..frame.corners())
+        .map(|c| OrientedFeature { axes: [axis(2 * c), axis(2 * c + 1)] })
+        .collect()
+}
+
+fn twin(word: u32) -> usize {
+    if word == NONE {
+        delaunator::EMPTY
+    } else {
+        word as usize
+    }
+}
+
+fn triangulation(frame: &Frame) -> Triangulation {
+    Triangulation {
+        triangles: frame.triangles.iter().map(|&c| c as usize).collect(),
+        halfedges: frame.twins.iter().map(|&w| twin(w)).collect(),
+    }
+}
+
+fn class_number(class: &EdgeClass) -> u32 {
+    match class {
+        EdgeClass::Spurious => 0,
+        EdgeClass::Grid => 1,
+        EdgeClass::Diagonal => 2,
+    }
+}
+
+fn axis_pair(cache: &AxisCache) -> AxisPair {
+    AxisPair {
+        angles: cache.angle_rad,
+        informative: cache.informative,
+    }
+}
+
+fn quad_words(quads: &[Quad]) -> Vec<[u32; 4]> {
+    quads.iter().map(|q| q.vertices.map(|c| c as u32)).collect()
+}
+
+fn component(found: &TopologicalComponent) -> Component {
+    let entry = |(at, &corner): (&crate::lattice::Coord, &usize)| Entry {
+        u: at.u,
+        v: at.v,
+        corner: corner as u32,
+    };
+    Component::of(found.labelled.iter().map(entry).collect())
+}
+
+/// The labelling alone. The original numbers its groups by their lowest quad and drops
+/// some in passing, so its own order of components is already document 01's.
+pub fn label(quads: &[[u32; 4]], least_quads: u32, least_corners: u32) -> Vec<Component> {
+    let quad = |q: &[u32; 4]| Quad { vertices: q.map(|c| c as usize) };
+    let quads: Vec<Quad> = quads.iter().map(quad).collect();
+    let found = label_components(&quads, least_quads as usize, least_corners as usize);
+    found.iter().map(component).collect()
+}
+
+/// The filters alone: what each of the three keeps.
+pub fn filter(quads: &[[u32; 4]], frame: &Frame) -> [Vec<[u32; 4]>; 3] {
+    let quad = |q: &[u32; 4]| Quad { vertices: q.map(|c| c as usize) };
+    let params = &frame.params;
+    let mut kept: [Vec<[u32; 4]>; 3] = Default::default();
+    let mut observer = |stage: FilterStage, quads: &[Quad]| {
+        let place = match stage {
+            FilterStage::Topology => 0,
+            FilterStage::Geometry => 1,
+            FilterStage::CellScale => 2,
+        };
+        kept[place] = quad_words(quads);
+    };
+    filter_quads_observed(
+        quads.iter().map(quad).collect(),
+        &positions(frame),
+        params.ratio,
+        params.least,
+        params.greatest,
+        Some(&mut observer),
+    );
+    kept
+}
+
+/// Runs all stages on a frame that the judge accepts.
+pub fn run(frame: &Frame) -> Stages {
+    let positions = positions(frame);
+    let mesh = triangulation(frame);
+    let caches = build_axis_caches(&features(frame), frame.params.spread_limit);
+    let classes = classify_all_edges(&positions, &caches, &mesh, frame.params.tolerance);
+    let quads = quad_words(&merge_triangle_pairs(&mesh, &classes, &positions));
+    let [topology, geometry, scale] = filter(&quads, frame);
+    let components = label(&scale, frame.params.least_quads, frame.params.least_corners);
+    Stages {
+        axes: caches.iter().map(axis_pair).collect(),
+        classes: classes.iter().map(class_number).collect(),
+        quads,
+        topology,
+        geometry,
+        scale,
+        components,
+    }
+}

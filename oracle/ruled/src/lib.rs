@@ -1,0 +1,16 @@
+// The original's stages with document 01's angle and distance in place of its own.
+
+include!(concat!(env!("OUT_DIR"), "/tree.rs"));
+
+pub use topological::driver::{filter, label, run};
+
+/// Gives a float the call that the build script writes where the original asks for an angle.
+pub(crate) trait AngleByRule {
+    fn angle_by_rule(self, dx: f32) -> f32;
+}
+
+impl AngleByRule for f32 {
+    fn angle_by_rule(self, dx: f32) -> f32 {
+        rules::angle(dx, self)
+    }
+}
