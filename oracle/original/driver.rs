@@ -50,6 +50,15 @@ fn class_number(class: &EdgeClass) -> u32 {
     }
 }
 
+fn class_of(number: u32) -> EdgeClass {
+    match number {
+        0 => EdgeClass::Spurious,
+        1 => EdgeClass::Grid,
+        2 => EdgeClass::Diagonal,
+        _ => panic!("{number} is no class"),
+    }
+}
+
 fn axis_pair(cache: &AxisCache) -> AxisPair {
     AxisPair {
         angles: cache.angle_rad,
@@ -103,22 +112,35 @@ pub fn filter(quads: &[[u32; 4]], frame: &Frame) -> [Vec<[u32; 4]>; 3] {
     kept
 }
 
+fn caches(frame: &Frame) -> Vec<AxisCache> {
+    build_axis_caches(&features(frame), frame.params.spread_limit)
+}
+
+/// The axis caches alone, one a corner.
+pub fn axes(frame: &Frame) -> Vec<AxisPair> {
+    caches(frame).iter().map(axis_pair).collect()
+}
+
+/// The classes alone, of an accepted frame. Its twins are not read.
+pub fn classes(frame: &Frame) -> Vec<u32> {
+    let mesh = triangulation(frame);
+    let tolerance = frame.params.tolerance;
+    let found = classify_all_edges(&positions(frame), &caches(frame), &mesh, tolerance);
+    found.iter().map(class_number).collect()
+}
+
+/// The quads alone, for any class list that pairs with the half-edges and holds classes.
+/// The axes of the frame are not read.
+pub fn quads(frame: &Frame, classes: &[u32]) -> Vec<[u32; 4]> {
+    let classes: Vec<EdgeClass> = classes.iter().map(|&number| class_of(number)).collect();
+    quad_words(&merge_triangle_pairs(&triangulation(frame), &classes, &positions(frame)))
+}
+
 /// Runs all stages on a frame that the judge accepts.
 pub fn run(frame: &Frame) -> Stages {
-    let positions = positions(frame);
-    let mesh = triangulation(frame);
-    let caches = build_axis_caches(&features(frame), frame.params.spread_limit);
-    let classes = classify_all_edges(&positions, &caches, &mesh, frame.params.tolerance);
-    let quads = quad_words(&merge_triangle_pairs(&mesh, &classes, &positions));
+    let classes = classes(frame);
+    let quads = quads(frame, &classes);
     let [topology, geometry, scale] = filter(&quads, frame);
     let components = label(&scale, frame.params.least_quads, frame.params.least_corners);
-    Stages {
-        axes: caches.iter().map(axis_pair).collect(),
-        classes: classes.iter().map(class_number).collect(),
-        quads,
-        topology,
-        geometry,
-        scale,
-        components,
-    }
+    Stages { axes: axes(frame), classes, quads, topology, geometry, scale, components }
 }

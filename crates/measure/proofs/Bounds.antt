@@ -1,4 +1,4 @@
--- Bounds on magnitudes go through sums, differences, squares and a quarter, for bounds that are floats. Assumes nothing.
+-- Bounds on magnitudes go through sums, differences, products, quotients, squares and a quarter, for bounds that are floats. Assumes nothing.
 use mathlib.Core.Path.{_≡_, refl, sym, ap, _∙_, subst}
 use mathlib.Core.Bool.{Bool, true, false, cond, _&&_, _||_, Bool·beq, false≢true}
 use Prim.Native.Nat.{ℕ, suc, _+_, _-_, _*_, _^_, _≤_, _<_}
@@ -88,13 +88,14 @@ quarter-bounded n x p (s, m, e, f, h) = rw f (bounded-round n (unlike s false) (
 
 -- ---- a square has its sign bit clear, and so has the sum of two such
 
+same-signs : (s : Bool) → unlike s s ≡ false
+same-signs true = refl
+same-signs false = refl
+
 pub square-small : (n : ℕ) (x : Float) → Exact (n * n) → Bounded n x → Small (n * n) (mul binary32 x x)
 unfolding mul
-square-small n x p (s, m, e, f, h) = rw f (go s)
-  where
-    go : (t : Bool) → Small (n * n) (round binary32 (unlike t t) (m * up e * (m * up e)) (down e * down e))
-    go true = small-round (n * n) (m * up e * (m * up e)) (down e * down e) p (mul-pos (down-pos e) (down-pos e)) (le-trans (mul-le-mul h h) (le-of-eq (mul-mul-mul-comm n (down e) n (down e))))
-    go false = small-round (n * n) (m * up e * (m * up e)) (down e * down e) p (mul-pos (down-pos e) (down-pos e)) (le-trans (mul-le-mul h h) (le-of-eq (mul-mul-mul-comm n (down e) n (down e))))
+square-small n x p (s, m, e, f, h) =
+    rw (f, same-signs s) (small-round (n * n) (m * up e * (m * up e)) (down e * down e) p (mul-pos (down-pos e) (down-pos e)) (le-trans (mul-le-mul h h) (le-of-eq (mul-mul-mul-comm n (down e) n (down e)))))
 
 pub add-small : (i j : ℕ) (x y : Float) → Exact (i + j) → Small i x → Small j y → Small (i + j) (add binary32 x y)
 unfolding add sum

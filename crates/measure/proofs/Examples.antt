@@ -1,4 +1,4 @@
--- Document 01's P examples hold, by computation. Assumes nothing.
+-- The list of document 01's P examples holds, by computation. Assumes nothing.
 use mathlib.Core.Path.{refl}
 use lib.Ieee.{neg, ofBits, round, add, sub, mul, div, lt, eq, le}
 use Rattle.measure.specs.Float.{within}

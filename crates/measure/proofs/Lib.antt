@@ -4,7 +4,7 @@ pub mod Ranges
 pub mod Rounding
 pub mod Bounds
 pub mod Positions
-pub mod Reciprocals
+pub mod Literals
 pub mod AngleBounds
 pub mod Own
 pub mod Rest

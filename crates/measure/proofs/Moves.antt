@@ -1,4 +1,4 @@
--- Powers of two moved from one side of a product to the other, and the ranges of the parts of a pattern. Assumes nothing.
+-- Powers of two moved from one side of a product to the other. Assumes nothing.
 use mathlib.Core.Path.{_≡_, refl, sym, ap, _∙_}
 use mathlib.Core.Bool.{Bool, true, false}
 use Prim.Native.Nat.{ℕ, _+_, _-_, _*_, _%_, _^_, _≤_, _<_}
@@ -7,8 +7,6 @@ use native.Mathlib.Omega.{arith}
 use borrow.Author.Tests.{ltb-true, ltb-false}
 use lib.Dec.{ltb, lit≤}
 use lib.Pow.{pow-add, pow-mono}
-use Rattle.measure.specs.Pattern.{sigOf, expOf}
-use Rattle.measure.proofs.Patterns.{small-sig, small-exp, large-sig, large-exp}
 
 -- an even part of a power of two is a square
 pub halved : (j z k f : ℕ) → f ≡ j + (k + k) → z * 2 ^ j * (2 ^ k * 2 ^ k) ≡ z * 2 ^ f
@@ -20,21 +18,6 @@ moved s z e h =
     let back : z + (e + 149 - z) ≡ e + 149 = omega arith in
     let one : s * 2 ^ z * 2 ^ (e + 149 - z) ≡ s * 2 ^ e * 2 ^ 149 = mul-assoc s (2 ^ z) (2 ^ (e + 149 - z)) ∙ ap (λ (n : ℕ). s * n) (sym (pow-add 2 z (e + 149 - z)) ∙ ap (λ (n : ℕ). 2 ^ n) back ∙ pow-add 2 e 149) ∙ sym (mul-assoc s (2 ^ e) (2 ^ 149)) in
     ap (λ (n : ℕ). 4 * n) (one ∙ mul-comm (s * 2 ^ e) (2 ^ 149)) ∙ sym (mul-assoc 4 (2 ^ 149) (s * 2 ^ e))
-
--- the parts of a pattern above 0 and below an infinity
-pub sig-pos : (b : ℕ) → 0 < b → 0 < sigOf b
-sig-pos b h = go (ltb b 8388608) refl
-  where
-    go : (t : Bool) → ltb b 8388608 ≡ t → 0 < sigOf b
-    go true e = rw (small-sig b (ltb-true b 8388608 e)) h
-    go false e = rw (large-sig b (ltb-false b 8388608 e)) (omega arith)
-
-pub exp-le : (b : ℕ) → b < 2139095040 → expOf b ≤ 253
-exp-le b h = go (ltb b 8388608) refl
-  where
-    go : (t : Bool) → ltb b 8388608 ≡ t → expOf b ≤ 253
-    go true e = rw (small-exp b (ltb-true b 8388608 e)) (omega arith)
-    go false e = rw (large-exp b (ltb-false b 8388608 e)) (omega arith)
 
 -- a positive number times 2 ^ z is below 2 ^ 32 only for a z below 32
 pub room-lt : (s z : ℕ) → 0 < s → s * 2 ^ z < 2 ^ 32 → z < 32

@@ -2,7 +2,7 @@
 use mathlib.Core.Path.{_≡_, refl, ap, _∙_, subst}
 use mathlib.Core.Bool.{Bool, true, false}
 use Prim.Native.Nat.{ℕ, zero, suc, _+_, _-_, _*_, _/_, _^_, _≤_, _<_}
-use native.Mathlib.Nat.{le-antisymm, le-of-lt, le-refl, zero-lt-suc, zero-mul, zero-div}
+use native.Mathlib.Nat.{le-antisymm, le-of-lt, le-refl, zero-lt-suc, zero-div}
 use native.Mathlib.Omega.{arith}
 use borrow.Author.Tests.{ltb-true, ltb-false}
 use lib.Dec.{T, ltb, lt→ltb}
@@ -13,6 +13,7 @@ use lib.Ieee.Exact.{HasValue}
 use lib.Ieee.Scale.{finite}
 use Rattle.measure.specs.Pattern.{sigOf, expOf, units}
 use Rattle.measure.specs.Root.{unitsOf, Multiple, float, beyond, NextBelow, NextAbove}
+use Rattle.measure.proofs.Squares.{zero-product}
 use Rattle.measure.proofs.Patterns.{units-mono, units-lt, units-order}
 use Rattle.measure.proofs.PatternFloats.{bits-value, bits-units, own-units, positive-bits}
 
@@ -25,7 +26,7 @@ infinity = refl
 
 nothing : (e : ℤ) → zero * up e * 2 ^ 149 / down e ≡ units 0
 unfolding units sigOf expOf
-nothing e = ap (λ (n : ℕ). n * 2 ^ 149 / down e) (zero-mul (up e)) ∙ ap (λ (n : ℕ). n / down e) (zero-mul (2 ^ 149)) ∙ zero-div (down e)
+nothing e = ap (λ (n : ℕ). n / down e) (zero-product (up e) (2 ^ 149)) ∙ zero-div (down e)
 
 unsigned : (s : Bool) (m : ℕ) (e : ℤ) → T (fits binary32 (fin s (suc m) e)) → T (fits binary32 (fin false (suc m) e))
 unfolding fits
@@ -51,7 +52,7 @@ value-finite nan s a c h = absurd h
 value-finite (inf t) s a c h = absurd h
 value-finite (fin t m e) s a c h = tt
 
-pub pattern-multiple : (c : ℕ) → c ≤ 2139095040 → Multiple (units c)
+pattern-multiple : (c : ℕ) → c ≤ 2139095040 → Multiple (units c)
 pattern-multiple c h = go (ltb c 2139095040) refl
   where
     go : (t : Bool) → ltb c 2139095040 ≡ t → Multiple (units c)

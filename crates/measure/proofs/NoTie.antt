@@ -13,7 +13,7 @@ use lib.Ieee.Positive.{positive}
 use Rattle.measure.specs.Pattern.{sigOf, expOf, units}
 use Rattle.measure.specs.Root.{unitsOf, Multiple, NextAbove}
 use Rattle.measure.proofs.Squares.{square-odd, square-scale}
-use Rattle.measure.proofs.Patterns.{small-sig, small-exp, large-sig, units-is, units-step, units-order}
+use Rattle.measure.proofs.Patterns.{sig-lt, sig-large, units-is, units-step, units-order}
 use Rattle.measure.proofs.PatternFloats.{own-units}
 use Rattle.measure.proofs.Neighbours.{multiple-pattern, next-above, above-unique}
 
@@ -43,20 +43,6 @@ odd-square g D q e small large most tie = go (ltb (e + e) D) refl
       where
         too-large : (a b c : ℕ) → c < 16777216 → 8388608 ≤ b → 4 * a + 4 * b + 1 ≤ c → ⊥
         too-large a b c p k r = omega arith
-
-sig-lt : (b : ℕ) → sigOf b < 16777216
-sig-lt b = go (ltb b 8388608) refl
-  where
-    go : (t : Bool) → ltb b 8388608 ≡ t → sigOf b < 16777216
-    go true e = let l = ltb-true b 8388608 e in rw (small-sig b l) (omega arith)
-    go false e = rw (large-sig b (ltb-false b 8388608 e)) (omega arith)
-
-sig-large : (b : ℕ) → 0 < expOf b → 8388608 ≤ sigOf b
-sig-large b h = go (ltb b 8388608) refl
-  where
-    go : (t : Bool) → ltb b 8388608 ≡ t → 8388608 ≤ sigOf b
-    go true e = let z : expOf b ≡ 0 = small-exp b (ltb-true b 8388608 e) in absurd (omega arith)
-    go false e = rw (large-sig b (ltb-false b 8388608 e)) (omega arith)
 
 -- a pattern's units and its next one's
 pair-is : (b : ℕ) → units b + units (b + 1) ≡ (sigOf b + (sigOf b + 1)) * 2 ^ expOf b

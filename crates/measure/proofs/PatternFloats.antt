@@ -17,11 +17,12 @@ use Rattle.measure.specs.Float.{signOf, absOf}
 use Rattle.measure.specs.Pattern.{units}
 use Rattle.measure.specs.Root.{unitsOf}
 use Rattle.measure.proofs.Sign.{sign-of-bits}
+use Rattle.measure.proofs.Squares.{zero-product}
 use Rattle.measure.proofs.Patterns.{small-sig, small-exp, large-sig, large-exp, units-is}
 
 -- ---- the units of a float
 
-pub value-units : (x : Float) (s : Bool) (a : ℕ) → HasValue x s a (2 ^ 149) → unitsOf x ≡ a
+value-units : (x : Float) (s : Bool) (a : ℕ) → HasValue x s a (2 ^ 149) → unitsOf x ≡ a
 unfolding unitsOf
 value-units nan s a h = absurd h
 value-units (inf t) s a h = absurd h
@@ -68,7 +69,7 @@ value-no-nan nan s a c h = absurd h
 value-no-nan (inf t) s a c h = absurd h
 value-no-nan (fin t m e) s a c h = tt
 
-pub bits-no-nan : (b : ℕ) → b < 2139095040 → T (not (isNan (ofBits binary32 b)))
+bits-no-nan : (b : ℕ) → b < 2139095040 → T (not (isNan (ofBits binary32 b)))
 bits-no-nan b h = value-no-nan (ofBits binary32 b) false (units b) (2 ^ 149) (bits-value b h)
 
 pub bits-fine : (b : ℕ) → b < 2139095040 → T (not (nanBits binary32 b))
@@ -136,9 +137,7 @@ own-units w f p = ap unitsOf (sym (ofBits-toBits binary32 w f)) ∙ bits-units (
 -- ---- nothing is cut off: a finite float's magnitude is exactly its units
 
 none-exact : (e : ℤ) → zero * up e * 2 ^ 149 ≡ zero * up e * 2 ^ 149 / down e * down e
-none-exact e =
-    let n : zero * up e * 2 ^ 149 ≡ 0 = ap (λ (k : ℕ). k * 2 ^ 149) (zero-mul (up e)) ∙ zero-mul (2 ^ 149) in
-    n ∙ sym (ap (λ (k : ℕ). k / down e * down e) n ∙ ap (λ (k : ℕ). k * down e) (zero-div (down e)) ∙ zero-mul (down e))
+none-exact e = let n = zero-product (up e) (2 ^ 149) in n ∙ sym (ap (λ (k : ℕ). k / down e * down e) n ∙ ap (λ (k : ℕ). k * down e) (zero-div (down e)) ∙ zero-mul (down e))
 
 pub whole-multiple : (x : Float) → T (fits binary32 x) → T (finite x) → HasValue (absOf x) false (unitsOf x) (2 ^ 149)
 unfolding unitsOf fits

@@ -28,6 +28,38 @@ pub large-exp : (b : ℕ) → 8388608 ≤ b → expOf b ≡ b / 8388608 - 1
 unfolding expOf
 large-exp b h = rw (le-ltb b 8388608 h)
 
+-- ---- their ranges
+
+pub sig-pos : (b : ℕ) → 0 < b → 0 < sigOf b
+sig-pos b h = go (ltb b 8388608) refl
+  where
+    go : (t : Bool) → ltb b 8388608 ≡ t → 0 < sigOf b
+    go true e = rw (small-sig b (ltb-true b 8388608 e)) h
+    go false e = rw (large-sig b (ltb-false b 8388608 e)) (omega arith)
+
+pub exp-le : (b : ℕ) → b < 2139095040 → expOf b ≤ 253
+exp-le b h = go (ltb b 8388608) refl
+  where
+    go : (t : Bool) → ltb b 8388608 ≡ t → expOf b ≤ 253
+    go true e = rw (small-exp b (ltb-true b 8388608 e)) (omega arith)
+    go false e = rw (large-exp b (ltb-false b 8388608 e)) (omega arith)
+
+pub sig-lt : (b : ℕ) → sigOf b < 16777216
+sig-lt b = go (ltb b 8388608) refl
+  where
+    go : (t : Bool) → ltb b 8388608 ≡ t → sigOf b < 16777216
+    go true e = let l = ltb-true b 8388608 e in rw (small-sig b l) (omega arith)
+    go false e = rw (large-sig b (ltb-false b 8388608 e)) (omega arith)
+
+pub sig-large : (b : ℕ) → 0 < expOf b → 8388608 ≤ sigOf b
+sig-large b h = go (ltb b 8388608) refl
+  where
+    go : (t : Bool) → ltb b 8388608 ≡ t → 8388608 ≤ sigOf b
+    go true e = let z : expOf b ≡ 0 = small-exp b (ltb-true b 8388608 e) in absurd (omega arith)
+    go false e = rw (large-sig b (ltb-false b 8388608 e)) (omega arith)
+
+-- ---- units
+
 pub units-is : (b : ℕ) → units b ≡ sigOf b * 2 ^ expOf b
 unfolding units
 units-is b = refl

@@ -14,7 +14,7 @@ exact20 : Exact 1048576
 unfolding round
 exact20 = (1, 20, refl, refl)
 
-pub exact21 : Exact 2097152
+exact21 : Exact 2097152
 unfolding round
 exact21 = (1, 21, refl, refl)
 

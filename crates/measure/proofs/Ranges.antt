@@ -1,6 +1,6 @@
 -- The code's tests of a range are the ranges of the definitions: finite, NaN, above zero, within a magnitude. Assumes nothing.
 use mathlib.Core.Path.{_≡_, refl, sym, _∙_}
-use mathlib.Core.Bool.{Bool, true, false, cond, not, _&&_, _||_}
+use mathlib.Core.Bool.{Bool, true, false, cond, not, _&&_, _||_, and-true}
 use Prim.Native.Nat.{ℕ, zero, suc, _+_, _*_, _<_}
 use native.Mathlib.Nat.{mul-pos, zero-lt-suc}
 use native.Mathlib.Omega.{arith}
@@ -73,10 +73,6 @@ eqb-sym a b = go (eqb a b) refl
     go : (t : Bool) → eqb a b ≡ t → eqb a b ≡ eqb b a
     go true e = e ∙ sym (eq-eqb b a (sym (eqb-true a b e)))
     go false e = e ∙ sym (ne-eqb b a (λ q. eqb-false a b e (sym q)))
-
-and-true : (b : Bool) → (b && true) ≡ b
-and-true true = refl
-and-true false = refl
 
 pub within-by : (x top : Float) → T (finite top && not (signOf top)) → (le x top && le (neg top) x) ≡ within top x
 unfolding within le lt eq neg

@@ -26,7 +26,7 @@ Bounded n x = (s : Bool) × (m : ℕ) × (e : ℤ) × (x ≡ fin s m e) × (m * 
 abbrev pub Exact : ℕ → Type 0
 Exact n = (q : ℕ) × (k : ℕ) × (round binary32 false n 1 ≡ fin false q (pos k)) × (q * 2 ^ k ≡ n)
 
-pub small-bounded : (n : ℕ) (x : Float) → Small n x → Bounded n x
+small-bounded : (n : ℕ) (x : Float) → Small n x → Bounded n x
 small-bounded n x (m, e, p, h) = (false, m, e, p, h)
 
 pub neg-bounded : (n : ℕ) (x : Float) → Bounded n x → Bounded n (neg x)

@@ -7,10 +7,12 @@ use Rattle.measure.specs.Distance.{lifted, folded, apart, numberOrNone, 
 use Rattle.measure.specs.Pattern.{sigOf, expOf, units}
 use Rattle.measure.specs.Root.{unitsOf}
 use Rattle.measure.specs.RootComputed.{greatest, reaches, rootPattern, rootOf}
+use Rattle.measure.specs.Length.{orZero, lengthOf}
+use Rattle.measure.specs.Position.{centroidOf}
 use Rattle.measure.specs.Worked.{Worked}
 
 pub worked : Worked
-unfolding neg ofBits round add sub mul div rem lt eq le within seriesOf partOf ratioOf baseOf octantOf acrossOf belowOf angleRule reached angleOf lifted folded apart numberOrNone distanceOf sigOf expOf units unitsOf greatest reaches rootPattern rootOf
+unfolding neg ofBits round add sub mul div rem lt eq le within seriesOf partOf ratioOf baseOf octantOf acrossOf belowOf angleRule reached angleOf lifted folded apart numberOrNone distanceOf sigOf expOf units unitsOf greatest reaches rootPattern rootOf lengthOf orZero centroidOf
 worked =
     record {
       root-zero = refl;
@@ -44,4 +46,9 @@ worked =
       apart-of-nan = (refl, refl);
       apart-of-infinity = refl;
       apart-overflow = refl;
+      length-3-4 = refl;
+      length-of-nan = refl;
+      position-most = (refl, refl);
+      position-past = (refl, refl);
+      centroid = refl;
     }

@@ -11,7 +11,7 @@ use Rattle.refusal.specs.declared.Refusal.the-variants.{OutOfRange}
 
 -- p = ±1/n + w·p, each 1/n rounded once
 abbrev pub plus : Float → ℕ → Float → Float
-plus w n p = Ieee.add binary32 (Ieee.round binary32 false 1 n) (Ieee.mul binary32 w p)
+plus w n p = Ieee.add binary32 (fraction 1 n) (Ieee.mul binary32 w p)
 
 abbrev pub minus : Float → ℕ → Float → Float
 minus w n p = Ieee.add binary32 (Ieee.round binary32 true 1 n) (Ieee.mul binary32 w p)
@@ -56,7 +56,7 @@ acrossOf sx base = cond sx (Ieee.sub binary32 (bits 0x40490FDB) base) base
 unfoldable pub belowOf : Bool → Float → Float
 belowOf sy base = cond sy (Ieee.neg base) base
 
--- the rule, for every two floats: what stages use, whose differences are in reach
+-- the rule, for every two floats
 unfoldable pub angleRule : Float → Float → Float
 angleRule dx dy = belowOf (signOf dy) (acrossOf (signOf dx) (octantOf (absOf dx) (absOf dy)))
 

@@ -1,4 +1,5 @@
--- Document 01's examples marked P, in its order: one list, and one proof of it in proofs/Examples. It holds those lines and no others.
+-- Document 01's examples marked P, in its order: one list, and one proof of it in proofs/Examples. It holds P lines and no others;
+-- here are those on root and angle, and the lines on later stages join them.
 use mathlib.Core.Path.{_≡_}
 use lib.Ieee as Ieee
 use Rattle.measure.specs.declared.Measured.the-variants.{Known}

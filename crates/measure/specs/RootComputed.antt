@@ -1,5 +1,5 @@
--- The root as a function that computes, for the definitions above it: the greatest pattern whose lower half-way point the root reaches.
--- `RootOf` is the meaning; proofs/RootOf shows that this is its only answer.
+-- The root as a function that computes, for definitions that take a root: the greatest pattern whose lower half-way point the root reaches.
+-- `RootOf` is the meaning; proofs/RootComputed shows that this is its only answer.
 use mathlib.Core.Bool.{Bool, true, false, cond}
 use Prim.Native.Nat.{ℕ, zero, suc, _+_, _-_, _*_, _^_}
 use lib.Dec.{leb}

@@ -1,11 +1,14 @@
 -- Further worked examples, one at least for each branch of each rule. The answers are from outside: roots from the machine's own square
--- root, angles and distances from the ruled Rust (oracle/, `oracle vectors numbers`).
+-- root, angles and distances from the ruled Rust (oracle/, `oracle vectors numbers`), the rest plain arithmetic.
 use mathlib.Core.Path.{_≡_}
+use mathlib.Core.Bool.{true, false}
 use Prim.Native.Nat.{ℕ}
 use Rattle.measure.specs.declared.Measured.the-variants.{Known, Refused}
 use Rattle.measure.specs.declared.Distance.the-variants as distance
 use Rattle.refusal.specs.declared.Refusal.the-variants.{OutOfRange}
-use Rattle.measure.specs.Float.{bits}
+use Rattle.measure.specs.Float.{bits, fraction}
+use Rattle.measure.specs.Length.{lengthOf}
+use Rattle.measure.specs.Position.{isPosition, centroidOf}
 use Rattle.measure.specs.Angle.{angleOf}
 use Rattle.measure.specs.Distance.{distanceOf}
 use Rattle.measure.specs.RootComputed.{rootOf}
@@ -70,3 +73,11 @@ pub record Worked : Type 0 where
   pub apart-of-nan : (NoDistance 0x7FC00000 0x00000000) × (NoDistance 0x00000000 0x7FC00000)
   pub apart-of-infinity : NoDistance 0x7F800000 0x00000000
   pub apart-overflow : NoDistance 0x7F7FFFFF 0xFF7FFFFF
+  -- the length of (3,4), and where there is no root
+  pub length-3-4 : lengthOf (fraction 3 1) (fraction 4 1) ≡ fraction 5 1
+  pub length-of-nan : lengthOf (bits 0x7FC00000) (fraction 4 1) ≡ bits 0
+  -- 1,048,576 and -1,048,576 are positions, the next float above and a NaN are not
+  pub position-most : (isPosition (bits 0x49800000) ≡ true) × (isPosition (bits 0xC9800000) ≡ true)
+  pub position-past : (isPosition (bits 0x49800001) ≡ false) × (isPosition (bits 0x7FC00000) ≡ false)
+  -- the centroid of 0, 10, 10 and 1
+  pub centroid : centroidOf (bits 0) (fraction 10 1) (fraction 10 1) (fraction 1 1) ≡ fraction 21 4

@@ -47,7 +47,7 @@ pub fn float_of(b: u32) -> f32
     }
 }
 
-// The angle rule with no refusal: stages call it on differences of positions, which are in reach.
+// The angle rule with no refusal, for differences of positions, which are in reach.
 pub fn angle_rule(dx: f32, dy: f32) -> f32
     ensures { λ r. ⌜ r ≡ angleRule dx dy ⌝ }
 {

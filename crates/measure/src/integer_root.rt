@@ -2,7 +2,7 @@
 ghost use Prim.Native.Nat.{_+_, _*_, _^_, _≤_, _<_};
 ghost use Rattle.measure.specs.Pattern.{IntegerRoot, Near};
 
-// Newton's iteration from a tangent of the root, taken in the middle of the lower or the upper half of the range: two or three divisions.
+// Newton's iteration; from `start` two turns are usual.
 fn isqrt(n: u64) -> u64
     requires { ⌜ (2 ^ 46 ≤ n) × (n < 2 ^ 48) ⌝ }
     ensures { λ r. ⌜ IntegerRoot n r ⌝ }
@@ -14,7 +14,7 @@ fn isqrt(n: u64) -> u64
     r
 }
 
-// The first guess, which is no lower than the root.
+// The first guess, which is no lower than the root: a tangent of the root, one for the numbers below 2^47 and one for the others.
 fn start(n: u64) -> u64
     requires { ⌜ n < 2 ^ 48 ⌝ }
     ensures { λ r. ⌜ (n < (r + 1) * (r + 1)) × (r ≤ 33554432) ⌝ }

@@ -3,12 +3,10 @@ ghost use mathlib.Core.Path.{_≡_};
 ghost use Rattle.measure.specs.Angle.{seriesOf, partOf, ratioOf, baseOf, octantOf, acrossOf, belowOf};
 ghost use Rattle.measure.specs.Float.{signOf, absOf};
 use crate::inner;
+use crate::turn::HALF_PI;
+use crate::turn::PI;
 
 const QUARTER_PI: f32 = f32::from_bits(0x3F490FDB);
-
-const HALF_PI: f32 = f32::from_bits(0x3FC90FDB);
-
-const PI: f32 = f32::from_bits(0x40490FDB);
 
 // Whether x's sign bit is set, as it is in -0.
 pub(crate) fn sign_bit(x: f32) -> bool

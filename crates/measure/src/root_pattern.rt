@@ -12,8 +12,9 @@ fn room(s: u32) -> u32
     u32::leading_zeros(s)
 }
 
-// The pattern of the root of z * 2^f units, z having 32 bits. A root rounded up to 2^24 carries into the exponent by the sum itself.
-fn root_of_units(z: u64, f: u32) -> u32
+// The pattern of the float whose units are nearest to the root of the number z * 2^f, z having 32 bits. That number is 2^149 times
+// the radicand's units. A root rounded up to 2^24 carries into the exponent by the sum itself.
+fn pattern_of_root(z: u64, f: u32) -> u32
     requires { ⌜ (2 ^ 31 ≤ z) × (z < 2 ^ 32) × (16 ≤ f) × (f ≤ 402) ⌝ }
     ensures { λ r. ⌜ RootBits (4 * (z * 2 ^ f)) r ⌝ }
 {
@@ -47,5 +48,5 @@ pub(crate) fn root_bits(b: u32) -> u32
 {
     let s = significand(b);
     let z = room(s);
-    root_of_units((s as u64) << z, exponent(b) + 149 - z)
+    pattern_of_root((s as u64) << z, exponent(b) + 149 - z)
 }

@@ -6,9 +6,9 @@ ghost use lib.Ieee.{binary32};
 ghost use Rattle.measure.specs.Distance.{pi, lifted, folded};
 ghost use Rattle.measure.specs.Float.{bits};
 
-const PI: f32 = f32::from_bits(0x40490FDB);
+pub(crate) const PI: f32 = f32::from_bits(0x40490FDB);
 
-const HALF_PI: f32 = f32::from_bits(0x3FC90FDB);
+pub(crate) const HALF_PI: f32 = f32::from_bits(0x3FC90FDB);
 
 const TWO_PI: f32 = f32::from_bits(0x40C90FDB);
 

@@ -1,19 +1,16 @@
 -- "First offender, or none" has one answer, and `firstOf` computes it. Assumes nothing.
 use mathlib.Core.Path.{_≡_, refl, sym, _∙_}
-use mathlib.Core.Bool.{Bool, true, false, cond}
-use Prim.Native.Nat.{ℕ, zero, suc, zero-le, suc-le-suc, _<_}
-use native.Mathlib.Nat.{lt-of-lt-of-le, le-of-suc-le-suc, not-suc-le-zero}
+use mathlib.Core.Bool.{Bool, true, false, cond, false≢true}
+use Prim.Native.Nat.{ℕ, zero, suc, zero-le, suc-le-suc, _<_, _≤_}
+use native.Mathlib.Nat.{lt-of-lt-of-le, le-of-suc-le-suc, not-suc-le-zero, le-of-lt, not-le-of-lt}
 use native.Mathlib.Omega.{arith}
 use borrow.Author.Tests.{ltb-true, ltb-false}
 use lib.Dec.{ltb}
 use Rattle.refusal.specs.First.{First, firstOf}
 
-never : false ≡ true → ⊥
-never e = let z : _≡_ {A = ℕ} 0 1 = cc in omega arith
-
 -- of two answers neither is the lower: it would offend, and be clear
 not-lower : (offends : ℕ → Bool) (n a b : ℕ) → First offends n a → First offends n b → a < b → ⊥
-not-lower offends n a b p q h = never (sym (q .clear a h) ∙ p .hit (lt-of-lt-of-le h (q .reach)))
+not-lower offends n a b p q h = false≢true (sym (q .clear a h) ∙ p .hit (lt-of-lt-of-le h (q .reach)))
 
 pub determined : (offends : ℕ → Bool) (n a b : ℕ) → First offends n a → First offends n b → a ≡ b
 determined offends n a b p q = go (ltb a b) (ltb b a) refl refl
@@ -47,3 +44,14 @@ first-of-is offends (suc n) = go (offends zero) refl (first-of-is (λ (k : ℕ).
 
 pub first-is : (offends : ℕ → Bool) (n r : ℕ) → First offends n r → r ≡ firstOf offends n
 first-is offends n r p = determined offends n r (firstOf offends n) p (first-of-is offends n)
+
+-- ---- what a search from the front knows at i
+
+abbrev pub Clear : (ℕ → Bool) → ℕ → Type 0
+Clear offends i = (k : ℕ) → k < i → offends k ≡ false
+
+pub first-found : (offends : ℕ → Bool) (n i : ℕ) → Clear offends i → i < n → offends i ≡ true → i ≡ firstOf offends n
+first-found offends n i clear below e = first-is offends n i (record { reach = le-of-lt below; clear = clear; hit = λ h. e })
+
+pub first-none : (offends : ℕ → Bool) (n i : ℕ) → Clear offends i → i ≤ n → n ≤ i → i ≡ firstOf offends n
+first-none offends n i clear reach all = first-is offends n i (record { reach = reach; clear = clear; hit = λ h. absurd (not-le-of-lt h all) })

@@ -1,4 +1,4 @@
--- The first offender, or none: the least place below n that offends, or n where none does. Every search for a place answers it.
+-- The first offender, or none: the least place below n that offends, or n where none does. A search for a place answers it.
 use mathlib.Core.Path.{_≡_}
 use mathlib.Core.Bool.{Bool, true, false, cond}
 use Prim.Native.Nat.{ℕ, zero, suc, _<_, _≤_}

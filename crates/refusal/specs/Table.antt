@@ -3,10 +3,10 @@ use Prim.Native.Nat.{ℕ}
 use Rattle.refusal.specs.declared.Refusal.{Refusal}
 use Rattle.refusal.specs.declared.Refusal.the-variants.{Unpaired, OverLimit, ParameterNan, OutOfRange, NoSuchCorner, NoSuchClass, CornerTwice, TwinPastEnd, TwinNotBack, TwinElsewhere, WorkspaceShort, RecordsShort, EntriesShort}
 
--- 1 paired lists differ in length, or a list of records is not whole; 2 a count is over its limit; 3 a parameter is NaN;
+-- 1 paired lists differ in length, or a triangle or quad list is not whole; 2 a count is over its limit; 3 a parameter is NaN;
 -- 4 a number is out of its range; 5 a corner that does not exist, or a class above 2; 6 a corner named twice;
 -- 7 a twin that is past the end, does not point back, or does not run between the same corners the other way;
--- 8 workspace, 9 a list of records, 10 the entry list too short
+-- 8 the workspace, 9 the component list or quad list, 10 the entry list too short
 abbrev pub numberOf : Refusal → ℕ
 numberOf Unpaired = 1
 numberOf OverLimit = 2

@@ -20,6 +20,12 @@ pub enum Refusal {
     EntriesShort(u32),
 }
 
+// Whether a call may go on. Rows are tried in the table's order, and the first that refuses shuts the gate.
+pub enum Gate {
+    Open,
+    Shut(Refusal),
+}
+
 // The row's number.
 pub fn number(refusal: Refusal) -> u32
     ensures { λ r. ⌜ r ≡ numberOf refusal ⌝ }

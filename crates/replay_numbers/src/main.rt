@@ -1,5 +1,5 @@
 // Replays outside vectors of root, angle and distance: each argument names a file of data/, whose lines hold patterns as eight hex
-// digits. Each line's answer is written by the proved call's own word; the gate compares all of them with the oracle's.
+// digits. It writes the proved call's answer to each line, and the gate compares what it wrote with the oracle's answers.
 ghost use Prim.Native.Nat.{_+_, _<_, _≤_};
 ghost use lib.ListN.{length};
 use measure::Distance;

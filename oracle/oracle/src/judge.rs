@@ -28,7 +28,7 @@ fn lengths(frame: &Frame) -> Option<usize> {
     (!paired(frame)).then_some(0)
 }
 
-fn counts(frame: &Frame) -> Option<usize> {
+pub(crate) fn counts(frame: &Frame) -> Option<usize> {
     let over = frame.corners() > MOST_CORNERS || frame.half_edges() > MOST_HALF_EDGES;
     over.then_some(0)
 }
@@ -37,7 +37,7 @@ fn parameters(frame: &Frame) -> Option<usize> {
     frame.params.floats().iter().position(|p| p.is_nan())
 }
 
-fn positions(frame: &Frame) -> Option<usize> {
+pub(crate) fn positions(frame: &Frame) -> Option<usize> {
     let inside = |p: f32| p.is_finite() && p.abs() <= GREATEST_POSITION;
     (0..frame.corners()).find(|&c| !inside(frame.x[c]) || !inside(frame.y[c]))
 }
@@ -65,7 +65,7 @@ fn bad_twin(frame: &Frame, e: usize) -> bool {
     frame.ends(twin) != (to, from)
 }
 
-fn twins(frame: &Frame) -> Option<usize> {
+pub(crate) fn twins(frame: &Frame) -> Option<usize> {
     (0..frame.half_edges()).find(|&e| bad_twin(frame, e))
 }
 
@@ -98,7 +98,7 @@ pub fn judge_quads(quads: &[u32], corners: usize) -> Option<Refusal> {
 }
 
 /// Tries rows 1, 2, ... in turn; a later one is looked at only when those before it pass.
-fn first_of(rows: &[&dyn Fn() -> Option<usize>]) -> Option<Refusal> {
+pub(crate) fn first_of(rows: &[&dyn Fn() -> Option<usize>]) -> Option<Refusal> {
     rows.iter().zip(1..).find_map(|(row, number)| {
         let place = row()? as u32;
         Some(Refusal { row: number, place })

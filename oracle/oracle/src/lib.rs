@@ -1,5 +1,6 @@
 // The oracle above both builds of the original.
 
+pub mod calls;
 pub mod compare;
 pub mod demand;
 pub mod gap;

@@ -1,15 +1,31 @@
-// oracle vectors numbers DIR: the vectors of the number calls.
+// oracle vectors numbers DIR, oracle vectors stages DIR: the vectors of the calls.
 
 use super::Outcome;
+use oracle::vectors::stages::write_stages;
 use oracle::vectors::write_numbers;
+use std::io;
+use std::path::Path;
 
-pub fn run(args: &[String]) -> Outcome {
-    let (Some("numbers"), Some(folder)) = (args.first().map(String::as_str), args.get(1)) else {
-        return Err("vectors numbers DIR".to_string());
-    };
-    let counts = write_numbers(folder.as_ref()).map_err(|e| format!("{folder}: {e}"))?;
-    for (name, rows) in counts {
+fn numbers(folder: &Path) -> io::Result<()> {
+    for (name, rows) in write_numbers(folder)? {
         println!("{name} {rows}");
     }
     Ok(())
+}
+
+fn stages(folder: &Path) -> io::Result<()> {
+    print!("{}", write_stages(folder)?);
+    Ok(())
+}
+
+pub fn run(args: &[String]) -> Outcome {
+    let [which, folder] = args else {
+        return Err("vectors numbers DIR or vectors stages DIR".to_string());
+    };
+    let written = match which.as_str() {
+        "numbers" => numbers(folder.as_ref()),
+        "stages" => stages(folder.as_ref()),
+        _ => return Err(format!("no vectors {which}; there are numbers and stages")),
+    };
+    written.map_err(|e| format!("{folder}: {e}"))
 }

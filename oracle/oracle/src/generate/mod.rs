@@ -8,7 +8,7 @@ mod finish;
 mod folds;
 mod grids;
 mod hubs;
-mod link;
+pub mod link;
 pub mod quad_lists;
 mod rosettes;
 mod scatter;

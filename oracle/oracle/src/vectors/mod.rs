@@ -1,8 +1,9 @@
-// Vectors for the number calls: inputs and the answers document 01 gives to them.
+// Vectors for the number calls and the stage calls: inputs and the answers document 01 gives.
 
 mod angles;
 mod distances;
 mod roots;
+pub mod stages;
 mod write;
 
 pub use angles::angles;

@@ -5,11 +5,14 @@ mod classes;
 mod filters;
 mod quads;
 
+pub use classes::classes;
+pub use quads::quads;
+
 use crate::demand;
 use frame::{AxisPair, Frame, Stages};
 
 /// The axis cache: missing is informative, a number is so if finite and strictly below the limit.
-fn axes(frame: &Frame) -> Vec<AxisPair> {
+pub fn axes(frame: &Frame) -> Vec<AxisPair> {
     let informative = |slot: usize| match frame.spread(slot) {
         None => true,
         Some(spread) => spread.is_finite() && spread < frame.params.spread_limit,
@@ -24,8 +27,8 @@ fn axes(frame: &Frame) -> Vec<AxisPair> {
 /// All stages of an accepted frame.
 pub fn run(frame: &Frame) -> Stages {
     let axes = axes(frame);
-    let classes = classes::classes(frame, &axes);
-    let quads = quads::quads(frame, &classes);
+    let classes = classes(frame, &axes);
+    let quads = quads(frame, &classes);
     let topology = filters::topology(&quads);
     let geometry = filters::opposing_sides(frame, &topology);
     let scale = filters::cell_size(frame, &geometry);

@@ -1,6 +1,6 @@
 -- `is_position` is `isPosition`: the literal is 1,048,576.
 use lib.Ieee.{ofBits}
-use Rattle.measure.proofs.Reciprocals.{range}
+use Rattle.measure.proofs.Literals.{range}
 use Rattle.measure.proofs.inner.is_position.Statement.{statement}
 use Rattle.measure.proofs.inner.is_position.Tie as tie
 

@@ -1,5 +1,5 @@
 -- `ratio` is `ratioOf`: the literal is 53/128.
-use Rattle.measure.proofs.Reciprocals.{p1, bend}
+use Rattle.measure.proofs.Literals.{p1, bend}
 use Rattle.measure.specs.Angle.{ratioOf}
 use borrow.Author.Needs.{needs}
 use Rattle.measure.proofs.octant.ratio.Statement.{statement}

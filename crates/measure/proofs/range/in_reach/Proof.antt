@@ -1,6 +1,6 @@
 -- `in_reach` is `inReach`: the literal is 2,097,152.
 use lib.Ieee.{ofBits}
-use Rattle.measure.proofs.Reciprocals.{reach}
+use Rattle.measure.proofs.Literals.{reach}
 use Rattle.measure.proofs.range.in_reach.Statement.{statement}
 use Rattle.measure.proofs.range.in_reach.Tie as tie
 

@@ -1,4 +1,4 @@
--- `root_of_units`: the power of two is split evenly between the exponent of the answer and the number whose root is taken.
+-- `pattern_of_root`: the power of two is split evenly between the exponent of the answer and the number whose root is taken.
 use Rattle.measure.proofs.Moves.{halved}
 use Rattle.measure.proofs.NearPattern.{near-pattern}
 use Rattle.measure.specs.Pattern.{RootBits}
@@ -6,8 +6,8 @@ use native.Mathlib.Omega.{arith}
 use Prim.Native.Nat.{ℕ, _+_, _-_, _*_, _/_}
 use mathlib.Core.Path.{_≡_, subst}
 use borrow.Author.Needs.{needs}
-use Rattle.measure.proofs.root_pattern.root_of_units.Statement.{statement}
-use Rattle.measure.proofs.root_pattern.root_of_units.Tie as tie
+use Rattle.measure.proofs.root_pattern.pattern_of_root.Statement.{statement}
+use Rattle.measure.proofs.root_pattern.pattern_of_root.Tie as tie
 
 sub-result : tie.Need-sub-result
 sub-result c = search needs
@@ -65,8 +65,8 @@ returns-2 c =
     subst (λ (v : ℕ). RootBits (4 * v) (k * 8388608 + r)) (halved 16 z k f e)
     (near-pattern (z * 65536) k r (omega arith) (omega arith) (omega arith) (c .nearest-root2 .ensures))
 
-pub root-of-units-spec : {M : Type 1} → statement M
-root-of-units-spec =
+pub pattern-of-root-spec : {M : Type 1} → statement M
+pattern-of-root-spec =
     tie.close
     (tie.spec
     sub-result

@@ -1,0 +1,3 @@
+pub mod HalfEdge
+pub mod Some
+pub mod Records

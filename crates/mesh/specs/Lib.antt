@@ -1,0 +1,5 @@
+pub mod HalfEdge
+pub mod Lists
+pub mod Positions
+pub mod Cells
+pub mod Twins

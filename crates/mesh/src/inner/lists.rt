@@ -1,0 +1,51 @@
+// Rows 1 and 2: lengths that belong together, whole records, counts within limits.
+ghost use mathlib.Core.Path.{_≡_};
+ghost use Prim.Native.Nat.{_<_};
+ghost use Rattle.mesh.specs.Lists.{pairedRow, doubledRow, wholeRow, limitRow};
+use refusal::Gate;
+use refusal::Refusal;
+
+// A word of a list as a place in one.
+pub fn wide(word: u32) -> usize
+    ensures { λ r. ⌜ r ≡ word ⌝ }
+{
+    word as usize
+}
+
+pub fn paired_row(a: usize, b: usize) -> Gate
+    ensures { λ r. ⌜ r ≡ pairedRow a b ⌝ }
+{
+    if a == b {
+        Gate::Open
+    } else {
+        Gate::Shut(Refusal::Unpaired)
+    }
+}
+
+// By half of a, since twice b may not fit.
+pub fn doubled_row(a: usize, b: usize) -> Gate
+    ensures { λ r. ⌜ r ≡ doubledRow a b ⌝ }
+{
+    if a % 2 == 0 {
+        return paired_row(a / 2, b);
+    }
+    Gate::Shut(Refusal::Unpaired)
+}
+
+// The size is 3 or 4, by every caller's own record.
+pub fn whole_row(n: usize, size: usize) -> Gate
+    requires { ⌜ 0 < size ⌝ }
+    ensures { λ r. ⌜ r ≡ wholeRow n size ⌝ }
+{
+    paired_row(n % size, 0)
+}
+
+pub fn limit_row(count: usize, most: usize) -> Gate
+    ensures { λ r. ⌜ r ≡ limitRow count most ⌝ }
+{
+    if most < count {
+        Gate::Shut(Refusal::OverLimit)
+    } else {
+        Gate::Open
+    }
+}

@@ -1,0 +1,33 @@
+-- Laws of rows in order: what an open gate says of its rows, and where the search of a row ends. Assumes nothing.
+use mathlib.Core.Path.{_≡_, refl}
+use mathlib.Core.Bool.{Bool, true, false}
+use Prim.Native.Nat.{ℕ, _<_, _≤_}
+use borrow.Author.Tests.{lt-ltb, le-ltb}
+use native.Mathlib.Omega.{arith}
+use Rattle.refusal.specs.declared.Gate.{Gate}
+use Rattle.refusal.specs.declared.Gate.the-variants.{Open, Shut}
+use Rattle.refusal.specs.declared.Refusal.{Refusal}
+use Rattle.refusal.specs.First.{firstOf}
+use Rattle.refusal.specs.Rows.{refuseIf, refuseFirst, _then_}
+
+-- both were open
+pub open-both : (g h : Gate) → (g then h) ≡ Open → (g ≡ Open) × (h ≡ Open)
+open-both Open h e = (refl, e)
+open-both (Shut why) h e = absurd (shut-open why e)
+  where
+    shut-open : (why : Refusal) → Shut why ≡ Open → ⊥
+    shut-open why e = let z : _≡_ {A = ℕ} 0 1 = cc in omega arith
+
+pub open-if : (t : Bool) (why : Refusal) → refuseIf t why ≡ Open → t ≡ false
+open-if true why e = let z : _≡_ {A = ℕ} 0 1 = cc in absurd (omega arith)
+open-if false why e = refl
+
+-- a row that searches: shut at the first offender, open where there is none
+module _ (offends : ℕ → Bool) (n r : ℕ) (why : ℕ → Refusal) (first : r ≡ firstOf offends n) where
+  pub shut-at : r < n → Shut (why r) ≡ refuseFirst offends n why
+  unfolding refuseFirst
+  shut-at h = rw (← first, lt-ltb r n h)
+
+  pub open-at : n ≤ r → Open ≡ refuseFirst offends n why
+  unfolding refuseFirst
+  open-at h = rw (← first, le-ltb r n h)

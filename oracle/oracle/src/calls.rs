@@ -1,0 +1,89 @@
+// The calls of the first three stages, whole: the rows that each has, and the ruled build's
+// answer. A refusal leaves the list as it was.
+
+use crate::judge::{counts, first_of, missing_corner, positions, repeated_corner, twins, Refusal};
+use frame::{AxisPair, Frame};
+
+const GREATEST_CLASS: u32 = 2;
+
+/// The axis cache of a frame's only corner.
+pub fn axis_cache(frame: &Frame) -> Result<AxisPair, Refusal> {
+    if frame.params.spread_limit.is_nan() {
+        return Err(Refusal { row: 3, place: 4 });
+    }
+    Ok(ruled::axes(frame)[0])
+}
+
+/// Row 1 of classes: two slots a corner, whole triangles, a class for each half-edge.
+fn unpaired_classes(frame: &Frame, classes: &[u32]) -> Option<usize> {
+    let corners = frame.x.len();
+    let axes = [frame.angles.len(), frame.marks.len(), frame.spreads.len()];
+    let paired = frame.y.len() == corners
+        && axes.iter().all(|&length| length == 2 * corners)
+        && frame.triangles.len().is_multiple_of(3)
+        && classes.len() == frame.triangles.len();
+    (!paired).then_some(0)
+}
+
+/// Row 3 of classes: the tolerance, then the spread limit.
+fn class_parameters(frame: &Frame) -> Option<usize> {
+    let params = &frame.params;
+    [(params.tolerance, 0), (params.spread_limit, 4)]
+        .iter()
+        .find_map(|&(value, place)| value.is_nan().then_some(place))
+}
+
+/// The classes call. The frame's twins are no part of it.
+pub fn classes(frame: &Frame, list: &mut [u32]) -> Result<(), Refusal> {
+    let rows: [&dyn Fn() -> Option<usize>; 6] = [
+        &|| unpaired_classes(frame, list),
+        &|| counts(frame),
+        &|| class_parameters(frame),
+        &|| positions(frame),
+        &|| missing_corner(&frame.triangles, frame.corners()),
+        &|| repeated_corner(&frame.triangles, 3),
+    ];
+    if let Some(refusal) = first_of(&rows) {
+        return Err(refusal);
+    }
+    list.copy_from_slice(&ruled::classes(frame));
+    Ok(())
+}
+
+/// Row 1 of quads: whole triangles, a twin and a class for each half-edge.
+fn unpaired_quads(frame: &Frame, classes: &[u32]) -> Option<usize> {
+    let half_edges = frame.triangles.len();
+    let paired = frame.y.len() == frame.x.len()
+        && half_edges.is_multiple_of(3)
+        && frame.twins.len() == half_edges
+        && classes.len() == half_edges;
+    (!paired).then_some(0)
+}
+
+/// Row 5 of quads: the triangle list whole, then the class list.
+fn missing_corner_or_class(frame: &Frame, classes: &[u32]) -> Option<usize> {
+    missing_corner(&frame.triangles, frame.corners())
+        .or_else(|| classes.iter().position(|&class| class > GREATEST_CLASS))
+}
+
+/// The quads call: gives the number of quads. The frame's axes are no part of it.
+pub fn quads(frame: &Frame, classes: &[u32], list: &mut [u32]) -> Result<usize, Refusal> {
+    let rows: [&dyn Fn() -> Option<usize>; 7] = [
+        &|| unpaired_quads(frame, classes),
+        &|| counts(frame),
+        &|| None,
+        &|| positions(frame),
+        &|| missing_corner_or_class(frame, classes),
+        &|| repeated_corner(&frame.triangles, 3),
+        &|| twins(frame),
+    ];
+    if let Some(refusal) = first_of(&rows) {
+        return Err(refusal);
+    }
+    let quads = ruled::quads(frame, classes);
+    if list.len() / 4 < quads.len() {
+        return Err(Refusal { row: 9, place: quads.len() as u32 });
+    }
+    list[..4 * quads.len()].copy_from_slice(&quads.concat());
+    Ok(quads.len())
+}

@@ -1,0 +1,65 @@
+// A case: one call's whole input.
+
+use frame::Frame;
+
+#[derive(Clone, Copy, Debug, PartialEq, Eq)]
+pub enum Kind {
+    Axis,
+    Classes,
+    Quads,
+}
+
+impl Kind {
+    pub const ALL: [Kind; 3] = [Kind::Axis, Kind::Classes, Kind::Quads];
+
+    /// What the names of its files begin with.
+    pub fn name(self) -> &'static str {
+        ["axis", "classes", "quads"][self as usize]
+    }
+}
+
+/// The lists that a kind does not have are not looked at. The class list of classes and the
+/// quad list of quads are what they hold before the call.
+#[derive(Clone, Debug)]
+pub struct Case {
+    pub kind: Kind,
+    pub frame: Frame,
+    pub classes: Vec<u32>,
+    pub quads: Vec<u32>,
+}
+
+/// A list of words that no call writes.
+pub fn untouched(length: usize) -> Vec<u32> {
+    (0..length as u32).map(|i| 70_000 + i.min(4)).collect()
+}
+
+impl Case {
+    /// The axis cache of a frame's only corner.
+    pub fn axis(frame: Frame) -> Case {
+        Case { kind: Kind::Axis, frame, classes: Vec::new(), quads: Vec::new() }
+    }
+
+    pub fn classes(frame: Frame) -> Case {
+        let classes = untouched(frame.half_edges());
+        Case { kind: Kind::Classes, frame, classes, quads: Vec::new() }
+    }
+
+    /// Quads with a class list, and room for all and more.
+    pub fn quads(frame: Frame, classes: Vec<u32>) -> Case {
+        let quads = untouched(4 * (frame.half_edges() / 6) + 5);
+        Case { kind: Kind::Quads, frame, classes, quads }
+    }
+
+    /// Quads with the classes that the ruled build gives.
+    pub fn quads_of(frame: Frame) -> Case {
+        let classes = ruled::classes(&frame);
+        Case::quads(frame, classes)
+    }
+
+    /// The same, with something changed.
+    pub fn with(&self, change: impl FnOnce(&mut Case)) -> Case {
+        let mut case = self.clone();
+        change(&mut case);
+        case
+    }
+}

@@ -1,0 +1,45 @@
+// Two faults of different rows at once, and all faults from a row on: the lower row wins.
+
+use super::meshes::strip;
+use super::rows::crowd;
+use super::{Case, Kind};
+
+/// Faults with their rows. Row 5 has two: a corner, and a class, which the classes call lacks.
+const FAULTS: [(u32, fn(&mut Case)); 10] = [
+    (1, |case| case.frame.y.truncate(case.frame.y.len() - 1)),
+    (2, |case| crowd(&mut case.frame, 4_097)),
+    (3, |case| case.frame.params.tolerance = f32::NAN),
+    (3, |case| case.frame.params.spread_limit = f32::NAN),
+    (4, |case| case.frame.x[2] = f32::NEG_INFINITY),
+    (5, |case| case.frame.triangles[10] = 70_000),
+    (5, |case| case.classes[4] = 3),
+    (6, |case| case.frame.triangles[4] = case.frame.triangles[3]),
+    (7, |case| case.frame.twins[0] = 0),
+    (9, |case| case.quads.truncate(7)),
+];
+
+fn has(kind: Kind, row: u32) -> bool {
+    match kind {
+        Kind::Classes => row <= 6,
+        _ => row != 3,
+    }
+}
+
+/// Later faults first, so that the list of corners is as long as it will be.
+fn faulty(sound: &Case, faults: &[usize]) -> Case {
+    sound.with(|case| faults.iter().rev().for_each(|&fault| FAULTS[fault].1(case)))
+}
+
+pub fn add(cases: &mut Vec<Case>) {
+    for sound in [Case::classes(strip(2)), Case::quads_of(strip(2))] {
+        let own: Vec<usize> =
+            (0..FAULTS.len()).filter(|&fault| has(sound.kind, FAULTS[fault].0)).collect();
+        for (i, &low) in own.iter().enumerate() {
+            cases.push(faulty(&sound, &own[i..]));
+            cases.push(faulty(&sound, &[low]));
+            for &high in &own[i + 1..] {
+                cases.push(faulty(&sound, &[low, high]));
+            }
+        }
+    }
+}

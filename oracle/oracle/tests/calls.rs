@@ -1,0 +1,112 @@
+// The calls of the stages by hand: document 01's words on classes, on room and on what stays.
+
+use frame::{Frame, NONE};
+use oracle::calls::{axis_cache, classes, quads};
+use oracle::judge::Refusal;
+use rules::HALF_PI;
+
+/// Two triangles over a square of side 10, axes along its sides.
+fn square() -> Frame {
+    let mut frame = Frame::default();
+    for (x, y) in [(0.0, 0.0), (10.0, 0.0), (10.0, 10.0), (0.0, 10.0)] {
+        frame.add_corner(x, y, [0.0, HALF_PI], [None, None]);
+    }
+    frame.add_triangle([0, 1, 2], [NONE, NONE, 3]);
+    frame.add_triangle([0, 2, 3], [2, NONE, NONE]);
+    frame
+}
+
+fn classes_of(frame: &Frame) -> Vec<u32> {
+    let mut list = vec![9; frame.half_edges()];
+    assert_eq!(classes(frame, &mut list), Ok(()));
+    list
+}
+
+const QUAD: [u32; 6] = [1, 1, 2, 2, 1, 1];
+
+fn refused<T>(row: u32, place: u32) -> Result<T, Refusal> {
+    Err(Refusal { row, place })
+}
+
+#[test]
+fn a_distance_equal_to_the_tolerance_is_spurious() {
+    let mut frame = square();
+    (0..4).for_each(|c| frame.angles[2 * c] = 0.25);
+    frame.params.tolerance = 0.25;
+    assert_eq!(classes_of(&frame), [0, 1, 0, 0, 0, 1]);
+    frame.params.tolerance = f32::from_bits(0.25f32.to_bits() + 1);
+    assert_eq!(classes_of(&frame), QUAD);
+}
+
+#[test]
+fn slot_0_on_equal_distance() {
+    let mut frame = square();
+    frame.angles[2..4].fill(0.0);
+    frame.params.tolerance = 2.0;
+    assert_eq!(classes_of(&frame), [1; 6]);
+    frame.params.tolerance = 0.25;
+    assert_eq!(classes_of(&frame), [1, 0, 0, 2, 1, 1], "twins differ");
+}
+
+#[test]
+fn spreads_and_marks() {
+    let mut frame = square();
+    frame.spreads.fill(f32::NAN);
+    assert_eq!(classes_of(&frame), QUAD);
+    frame.marks[0] = u32::MAX;
+    assert_eq!(classes_of(&frame), [0, 1, 0, 2, 1, 1]);
+    frame.spreads[0] = -1.0;
+    assert_eq!(classes_of(&frame), QUAD);
+    frame.spreads[0] = frame.params.spread_limit;
+    assert_eq!(classes_of(&frame), [0, 1, 0, 2, 1, 1]);
+    assert_eq!(axis_cache(&frame).map(|pair| pair.informative), Ok([false, true]));
+    frame.params.spread_limit = f32::NAN;
+    assert_eq!(axis_cache(&frame).map(|pair| pair.informative), refused(3, 4));
+}
+
+#[test]
+fn room() {
+    let frame = square();
+    for length in 0..12 {
+        let mut list: Vec<u32> = (50..50 + length).collect();
+        let before = list.clone();
+        let result = quads(&frame, &QUAD, &mut list);
+        if length < 4 {
+            assert_eq!((result, list), (refused(9, 1), before));
+        } else {
+            assert_eq!((result, &list[..4]), (Ok(1), &[0, 1, 2, 3][..]));
+            assert_eq!(list[4..], before[4..]);
+        }
+    }
+    assert_eq!(quads(&frame, &[1; 6], &mut []), Ok(0));
+}
+
+#[test]
+fn a_list_that_does_not_pair() {
+    let frame = square();
+    let mut short = [7; 5];
+    assert_eq!(classes(&frame, &mut short), refused(1, 0));
+    assert_eq!(short, [7; 5]);
+    assert_eq!(quads(&frame, &QUAD[..5], &mut []), refused(1, 0));
+}
+
+#[test]
+fn corners_before_classes() {
+    let mut frame = square();
+    assert_eq!(quads(&frame, &[1, 3, 1, 1, 9, 1], &mut []), refused(5, 1));
+    frame.triangles[5] = 4;
+    assert_eq!(quads(&frame, &[1, 3, 1, 1, 9, 1], &mut []), refused(5, 5));
+    assert_eq!(classes(&frame, &mut [3; 6]), refused(5, 5));
+}
+
+#[test]
+fn rows_that_a_call_lacks() {
+    let mut frame = square();
+    frame.twins = vec![77];
+    frame.params.ratio = f32::NAN;
+    assert_eq!(classes_of(&frame), QUAD);
+    let mut frame = square();
+    frame.angles.clear();
+    frame.params.tolerance = f32::NAN;
+    assert_eq!(quads(&frame, &QUAD, &mut [0; 4]), Ok(1));
+}
