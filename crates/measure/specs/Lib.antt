@@ -1,5 +1,6 @@
 pub mod Float
 pub mod Position
+pub mod Parameter
 pub mod Angle
 pub mod Distance
 pub mod Root

@@ -1,14 +1,17 @@
-// What crates above call without a refusal: tests of a float, floats as words, the angle rule and the length, each for every input.
+// What crates above call without a refusal: tests of a float, row 3, floats as words, the angle rule and the length, each for every input.
 ghost use mathlib.Core.Path.{_≡_};
 ghost use lib.Ieee as Ieee;
 ghost use lib.Ieee.{binary32};
 ghost use lib.Ieee.Scale.{finite};
 ghost use Rattle.measure.specs.Angle.{angleRule};
 ghost use Rattle.measure.specs.Length.{lengthOf};
+ghost use Rattle.measure.specs.Parameter.{parameterRow};
 ghost use Rattle.measure.specs.Position.{isPosition};
 use crate::Measured;
 use crate::octant;
 use crate::range;
+use refusal::Gate;
+use refusal::Refusal;
 
 pub fn is_nan(x: f32) -> bool
     ensures { λ r. ⌜ r ≡ Ieee.isNan x ⌝ }
@@ -66,5 +69,16 @@ pub fn length(dx: f32, dy: f32) -> f32
     match answer {
         Measured::Known(y) => y,
         Measured::Refused(_) => 0.0,
+    }
+}
+
+// Row 3 for one parameter: its number is the place.
+pub fn parameter_row(parameter: f32, number: u32) -> Gate
+    ensures { λ r. ⌜ r ≡ parameterRow parameter number ⌝ }
+{
+    if is_nan(parameter) {
+        Gate::Shut(Refusal::ParameterNan(number))
+    } else {
+        Gate::Open
     }
 }

@@ -33,7 +33,7 @@ shifted offends n r e p =
     below zero h = e
     below (suc k) h = p .clear k (le-of-suc-le-suc h)
 
-first-of-is : (offends : ℕ → Bool) (n : ℕ) → First offends n (firstOf offends n)
+pub first-of-is : (offends : ℕ → Bool) (n : ℕ) → First offends n (firstOf offends n)
 unfolding firstOf
 first-of-is offends zero = record { reach = zero-le; clear = λ k h. absurd (not-suc-le-zero h); hit = λ h. absurd (not-suc-le-zero h) }
 first-of-is offends (suc n) = go (offends zero) refl (first-of-is (λ (k : ℕ). offends (suc k)) n)

@@ -2,12 +2,14 @@
 use mathlib.Core.Path.{_≡_, refl}
 use mathlib.Core.Bool.{Bool, true, false}
 use Prim.Native.Nat.{ℕ, _<_, _≤_}
-use borrow.Author.Tests.{lt-ltb, le-ltb}
+use native.Mathlib.Nat.{lt-of-lt-of-le}
+use borrow.Author.Tests.{lt-ltb, le-ltb, ltb-false}
 use native.Mathlib.Omega.{arith}
 use Rattle.refusal.specs.declared.Gate.{Gate}
 use Rattle.refusal.specs.declared.Gate.the-variants.{Open, Shut}
 use Rattle.refusal.specs.declared.Refusal.{Refusal}
 use Rattle.refusal.specs.First.{firstOf}
+use Rattle.refusal.proofs.First.{Clear, first-of-is}
 use Rattle.refusal.specs.Rows.{refuseIf, refuseFirst, _then_}
 
 -- both were open
@@ -31,3 +33,8 @@ module _ (offends : ℕ → Bool) (n r : ℕ) (why : ℕ → Refusal) (first : r
   pub open-at : n ≤ r → Open ≡ refuseFirst offends n why
   unfolding refuseFirst
   open-at h = rw (← first, le-ltb r n h)
+
+-- a searching row that is open: no place offends
+pub open-clear : (offends : ℕ → Bool) (n : ℕ) (why : ℕ → Refusal) → refuseFirst offends n why ≡ Open → Clear offends n
+unfolding refuseFirst
+open-clear offends n why e k h = first-of-is offends n .clear k (lt-of-lt-of-le h (ltb-false (firstOf offends n) n (open-if _ _ e)))

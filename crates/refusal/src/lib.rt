@@ -3,6 +3,8 @@
 ghost use mathlib.Core.Path.{_≡_};
 ghost use Rattle.refusal.specs.Table.{numberOf, placeOf};
 
+pub mod inner;
+
 // What was wrong with the input. A number beside it is what the table calls the place; a twin fault also has the twin's value.
 pub enum Refusal {
     Unpaired,

@@ -5,9 +5,9 @@ ghost use lib.Dec.{eqb};
 ghost use lib.ListN.{length, getD};
 ghost use Rattle.refusal.specs.First.{firstOf};
 ghost use Rattle.mesh.specs.Cells.{notBelow, cornersRow, classesRow, some, namesTwice, twiceRow};
-use crate::inner::lists::wide;
 use refusal::Gate;
 use refusal::Refusal;
+use words::inner::wide;
 
 // The first place whose word is not below the count, or the length.
 fn first_not_below(words: &[u32], count: usize) -> usize

@@ -5,13 +5,6 @@ ghost use Rattle.mesh.specs.Lists.{pairedRow, doubledRow, wholeRow, limi
 use refusal::Gate;
 use refusal::Refusal;
 
-// A word of a list as a place in one.
-pub fn wide(word: u32) -> usize
-    ensures { λ r. ⌜ r ≡ word ⌝ }
-{
-    word as usize
-}
-
 pub fn paired_row(a: usize, b: usize) -> Gate
     ensures { λ r. ⌜ r ≡ pairedRow a b ⌝ }
 {

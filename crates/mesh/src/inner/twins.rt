@@ -6,9 +6,9 @@ ghost use lib.ListN.{length};
 ghost use Rattle.refusal.specs.First.{firstOf};
 ghost use Rattle.mesh.specs.Twins.{pastEnd, pointsBack, runsBack, twinOffends, twinFault, twinsRow};
 use crate::inner::half_edge::next_edge;
-use crate::inner::lists::wide;
 use refusal::Gate;
 use refusal::Refusal;
+use words::inner::wide;
 
 pub const NO_TWIN: u32 = 0xFFFF_FFFF;
 

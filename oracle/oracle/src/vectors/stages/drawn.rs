@@ -8,31 +8,30 @@ use crate::random::Random;
 use frame::Frame;
 
 const SEED: u64 = 6;
-const SMALL: usize = 21 * KINDS.len();
+/// The last of each kind is of middling size.
 const FRAMES: usize = 22 * KINDS.len();
-const DAMAGED: usize = 48;
+const DAMAGED: usize = 42;
 
-/// A frame of a kind with triangles, drawn again until it is small enough; as some kinds have
-/// no very small frames, each draw may be a little larger than the last.
-fn small(kind: usize, random: &mut Random) -> Frame {
-    let mut most = 36;
+/// A size: corners from and to, half-edges from and to.
+struct Size {
+    corners: (i32, i32),
+    half_edges: (usize, usize),
+}
+
+const SMALL: Size = Size { corners: (4, 18), half_edges: (1, 31) };
+const MIDDLING: Size = Size { corners: (24, 40), half_edges: (60, 110) };
+
+/// A frame of a kind, drawn again until it has the size; as some kinds have no frames of every
+/// size, each draw may be a little larger than the last.
+fn draw(kind: usize, size: &Size, random: &mut Random) -> Frame {
+    let (least, mut most) = size.half_edges;
     loop {
-        let corners = random.between(4, 18) as usize;
+        let corners = random.between(size.corners.0, size.corners.1) as usize;
         let frame = KINDS[kind].1(corners, random);
-        if (1..=most).contains(&frame.half_edges()) {
+        if (least..=most).contains(&frame.half_edges()) {
             return frame;
         }
         most += 2;
-    }
-}
-
-/// A frame of a kind with some dozens of corners where the kind has such.
-fn middling(kind: usize, random: &mut Random) -> Frame {
-    loop {
-        let frame = KINDS[kind].1(36, random);
-        if frame.corners() <= 60 && (60..=120).contains(&frame.half_edges()) {
-            return frame;
-        }
     }
 }
 
@@ -47,8 +46,8 @@ fn draw_room(case: &mut Case, random: &mut Random) {
 fn sound(cases: &mut Vec<Case>) {
     for i in 0..FRAMES {
         let mut random = Random::part(SEED, i as u64);
-        let draw = if i < SMALL { small } else { middling };
-        let frame = draw(i % KINDS.len(), &mut random);
+        let size = if i < FRAMES - KINDS.len() { SMALL } else { MIDDLING };
+        let frame = draw(i % KINDS.len(), &size, &mut random);
         cases.push(Case::classes(frame.clone()));
         let mut own = Case::quads_of(frame.clone());
         draw_room(&mut own, &mut random);
@@ -66,7 +65,7 @@ fn sound(cases: &mut Vec<Case>) {
 fn damaged(cases: &mut Vec<Case>) {
     for i in 0..DAMAGED {
         let mut random = Random::part(SEED + 1, i as u64);
-        let frame = small(random.below(4), &mut random);
+        let frame = draw(random.below(4), &SMALL, &mut random);
         let row = [1, 3, 4, 5, 6, 7][i % 6];
         let mut bad = frame.clone();
         damage(row, &mut bad, &mut random);

@@ -4,8 +4,10 @@ use super::meshes::strip;
 use super::rows::crowd;
 use super::{Case, Kind};
 
+type Fault = (u32, fn(&mut Case));
+
 /// Faults with their rows. Row 5 has two: a corner, and a class, which the classes call lacks.
-const FAULTS: [(u32, fn(&mut Case)); 10] = [
+const FAULTS: [Fault; 10] = [
     (1, |case| case.frame.y.truncate(case.frame.y.len() - 1)),
     (2, |case| crowd(&mut case.frame, 4_097)),
     (3, |case| case.frame.params.tolerance = f32::NAN),

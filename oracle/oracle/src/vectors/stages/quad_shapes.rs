@@ -9,7 +9,8 @@ use crate::random::Random;
 type Points = [(f32, f32); 4];
 
 /// Equal centroid angles, corners on the centroid, least y two and three times, full ties.
-const SHAPES: [Points; 14] = [
+/// In the last two the order of the centroid's sums decides on which side of it a corner lies.
+const SHAPES: [Points; 16] = [
     SQUARE,
     [(0.0, -5.0), (5.0, 0.0), (0.0, 5.0), (-5.0, 0.0)],
     [(4.0, 0.0), (8.0, 0.0), (-6.0, 1.0), (-6.0, -1.0)],
@@ -24,6 +25,8 @@ const SHAPES: [Points; 14] = [
     [(0.1, 0.2), (0.3, 0.2), (0.7, 0.9), (0.1, 0.2)],
     [(1e6, 1e6), (-1e6, 1e6), (-1e6, -1e6), (1_048_576.0, -1_048_576.0)],
     [(1_048_575.9, 0.1), (1_048_575.8, 0.1), (1_048_575.9, 0.2), (1_048_576.0, 0.2)],
+    [(1_048_576.0, 0.0), (-1_048_576.0, 0.0), (0.03, 0.0), (0.005, 0.0)],
+    [(0.0, 1_048_576.0), (0.0, -1_048_576.0), (0.0, 0.03), (0.0, 0.005)],
 ];
 
 /// The points in all orders: 24 pairs of triangles, shared sides and turns going round.
@@ -51,7 +54,7 @@ fn triple(number: u32) -> [u32; 3] {
 }
 
 /// All classes of one triangle beside some of the other's: with one Diagonal in each place,
-/// with two and three, with a Spurious one before and after, and with none.
+/// with two and three, and with a Spurious one.
 fn all_classes(cases: &mut Vec<Case>) {
     let seconds = [[2, 1, 1], [1, 2, 1], [1, 1, 2], [2, 2, 1], [2, 2, 2], [2, 0, 1]];
     for (k, second) in seconds.into_iter().enumerate() {

@@ -41,9 +41,8 @@ fn numbers(case: &Case) -> Vec<u32> {
     let frame = &case.frame;
     match case.kind {
         Kind::Axis => {
-            let slot = |k: usize| {
-                [frame.angles[k].to_bits(), frame.marks[k], frame.spreads[k].to_bits()]
-            };
+            let slot =
+                |k: usize| [frame.angles[k].to_bits(), frame.marks[k], frame.spreads[k].to_bits()];
             [&slot(0)[..], &slot(1), &[frame.params.spread_limit.to_bits()]].concat()
         }
         Kind::Classes => bits(&[frame.params.tolerance, frame.params.spread_limit]),

@@ -1,0 +1,46 @@
+-- Document 01, "Axis cache": one record per corner with its two angles and two informative marks.
+use mathlib.Core.Bool.{Bool, true, cond, _&&_}
+use mathlib.Core.List.{List}
+use Prim.Native.Nat.{ℕ, _+_, _*_}
+use lib.Dec.{eqb}
+use lib.Ieee as Ieee
+use lib.Ieee.{Float, nan}
+use lib.Ieee.Scale.{finite}
+use lib.ListN.{getD}
+use Rattle.measure.specs.Parameter.{parameterRow}
+use Rattle.refusal.specs.declared.Gate.{Gate}
+use Rattle.refusal.specs.declared.Gate.the-variants.{Open, Shut}
+use Rattle.axis.specs.declared.Spread.{Spread}
+use Rattle.axis.specs.declared.Spread.the-variants as spread
+use Rattle.axis.specs.declared.SpreadRule.{SpreadRule}
+use Rattle.axis.specs.declared.AxisCache.{AxisCache}
+use Rattle.axis.specs.declared.Cached.{Cached}
+use Rattle.axis.specs.declared.Cached.the-variants.{Known, Refused}
+
+-- missing is informative, a number is so if finite and strictly below the limit (negative ones too)
+unfoldable pub informativeOf : SpreadRule → Spread → Bool
+informativeOf rule spread.Missing = true
+informativeOf rule (spread.Known x) = finite x && Ieee.lt x (rule .limit)
+
+abbrev pub cacheOf : SpreadRule → Float → Spread → Float → Spread → AxisCache
+cacheOf rule angle0 spread0 angle1 spread1 =
+    record { angle0 = angle0; angle1 = angle1; informative0 = informativeOf rule spread0; informative1 = informativeOf rule spread1 }
+
+-- in a lent list a mark stands beside a spread, 0 for missing, any other for present
+unfoldable pub spreadFrom : ℕ → Float → Spread
+spreadFrom mark x = cond (eqb mark 0) spread.Missing (spread.Known x)
+
+-- the cache of corner k, from lists with two slots a corner
+unfoldable pub cacheAt : SpreadRule → List Float → List ℕ → List Float → ℕ → AxisCache
+cacheAt rule angles marks spreads k =
+    cacheOf rule
+    (getD angles (2 * k) nan) (spreadFrom (getD marks (2 * k) 0) (getD spreads (2 * k) nan))
+    (getD angles (2 * k + 1) nan) (spreadFrom (getD marks (2 * k + 1) 0) (getD spreads (2 * k + 1) nan))
+
+-- the call: row 3, of which the spread limit is parameter 4
+abbrev pub cachedBy : Gate → AxisCache → Cached
+cachedBy Open cache = Known cache
+cachedBy (Shut why) cache = Refused why
+
+unfoldable pub cacheCall : SpreadRule → Float → Spread → Float → Spread → Cached
+cacheCall rule angle0 spread0 angle1 spread1 = cachedBy (parameterRow (rule .limit) 4) (cacheOf rule angle0 spread0 angle1 spread1)

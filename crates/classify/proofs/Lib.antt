@@ -1,0 +1,4 @@
+pub mod Sound
+pub mod Triangle
+pub mod Outcomes
+pub mod Angles

@@ -1,0 +1,104 @@
+-- What open rows say: the lists pair, are within the limits, hold positions and name corners that exist. Assumes nothing.
+use mathlib.Core.Path.{_≡_, refl, sym}
+use mathlib.Core.Bool.{Bool, true, false, not, _&&_, false≢true}
+use mathlib.Core.List.{List}
+use Prim.Native.Nat.{ℕ, _*_, _%_, _≤_, _<_}
+use borrow.Author.Tests.{eqb-true, ltb-false, leb-false, not-false}
+use lib.Dec.{eqb, ltb}
+use lib.Ieee.{Float, nan}
+use lib.ListN.{length, getD}
+use Rattle.refusal.specs.declared.Gate.the-variants.{Open}
+use Rattle.refusal.specs.declared.Refusal.the-variants.{Unpaired, OverLimit, OutOfRange, NoSuchCorner}
+use Rattle.refusal.specs.Rows.{refuseIf, _then_}
+use Rattle.refusal.proofs.Rows.{open-both, open-if, open-clear}
+use Rattle.measure.specs.Position.{isPosition}
+use Rattle.mesh.specs.Positions.{misplaced, positionsRow}
+use Rattle.mesh.specs.Cells.{notBelow, cornersRow, twiceRow}
+use Rattle.measure.specs.Parameter.{parameterRow}
+use Rattle.classify.specs.declared.EdgeParams.{EdgeParams}
+use Rattle.classify.specs.Classes.{Input, Sound}
+use Rattle.classify.specs.Call.{lengthsGate, valuesGate, gateOf}
+
+-- ---- rows 1 and 2
+
+equal : (a b : ℕ) → refuseIf (not (eqb a b)) Unpaired ≡ Open → a ≡ b
+equal a b e = eqb-true a b (not-false (eqb a b) (open-if (not (eqb a b)) Unpaired e))
+
+at-most : (a b : ℕ) → refuseIf (ltb b a) OverLimit ≡ Open → a ≤ b
+at-most a b e = ltb-false b a (open-if (ltb b a) OverLimit e)
+
+pub record Paired (x y angles marks spreads triangles classes : ℕ) : Type 0 where
+  pub y-is : y ≡ x
+  pub angles-are : angles ≡ 2 * x
+  pub marks-are : marks ≡ 2 * x
+  pub spreads-are : spreads ≡ 2 * x
+  pub whole : triangles % 3 ≡ 0
+  pub classes-are : classes ≡ triangles
+  pub corners : x ≤ 4096
+  pub edges : triangles ≤ 24576
+
+pub lengths-open : (x y a m s t c : ℕ) → lengthsGate x y a m s t c ≡ Open → Paired x y a m s t c
+unfolding lengthsGate
+lengths-open x y a m s t c e =
+    let e1 = open-both _ _ e in
+    let e2 = open-both _ _ (e1 .1) in
+    let e3 = open-both _ _ (e2 .1) in
+    let e4 = open-both _ _ (e3 .1) in
+    let e5 = open-both _ _ (e4 .1) in
+    let e6 = open-both _ _ (e5 .1) in
+    let e7 = open-both _ _ (e6 .1) in
+    record {
+      y-is = equal y x (e1 .0);
+      angles-are = equal a (2 * x) (e2 .0);
+      marks-are = equal m (2 * x) (e3 .0);
+      spreads-are = equal s (2 * x) (e4 .0);
+      whole = equal (t % 3) 0 (e5 .0);
+      classes-are = equal c t (e6 .0);
+      corners = at-most x 4096 (e7 .0);
+      edges = at-most t 24576 (e7 .1);
+    }
+
+-- ---- rows 4 and 5
+
+both-true : (a b : Bool) → not (a && b) ≡ false → (a ≡ true) × (b ≡ true)
+both-true true true e = (refl, refl)
+both-true true false e = absurd (false≢true (sym e))
+both-true false b e = absurd (false≢true (sym e))
+
+placed : (xs ys : List Float) → positionsRow xs ys ≡ Open → (k : ℕ) → k < length xs → (isPosition (getD xs k nan) ≡ true) × (isPosition (getD ys k nan) ≡ true)
+unfolding positionsRow misplaced
+placed xs ys e k h = both-true _ _ (open-clear (misplaced xs ys) (length xs) OutOfRange e k h)
+
+named : (n : ℕ) (cells : List ℕ) → cornersRow n cells ≡ Open → (k : ℕ) → k < length cells → getD cells k 0 < n
+unfolding cornersRow notBelow
+named n cells e k h = leb-false n (getD cells k 0) (open-clear (notBelow n cells) (length cells) NoSuchCorner e k h)
+
+values-open : (xs ys : List Float) (triangles : List ℕ) (p : EdgeParams) → valuesGate xs ys triangles p ≡ Open → (positionsRow xs ys ≡ Open) × (cornersRow (length xs) triangles ≡ Open)
+unfolding valuesGate
+values-open xs ys triangles p e =
+    let v1 = open-both (parameterRow (p .tolerance) 0) _ e in
+    let v2 = open-both (parameterRow (p .spread .limit) 4) _ (v1 .1) in
+    let v3 = open-both (positionsRow xs ys) (cornersRow (length xs) triangles then twiceRow 3 triangles) (v2 .1) in
+    (v3 .0, open-both (cornersRow (length xs) triangles) (twiceRow 3 triangles) (v3 .1) .0)
+
+-- ---- all rows
+
+pub gate-sound : (i : Input) (classes : ℕ) → gateOf i classes ≡ Open → Sound i × (classes ≡ length (i .triangles))
+unfolding gateOf
+gate-sound i classes e =
+    let both = open-both _ _ e in
+    let l = lengths-open _ _ _ _ _ _ _ (both .0) in
+    let v = values-open (i .xs) (i .ys) (i .triangles) (i .params) (both .1) in (
+      record {
+        ys = l .y-is;
+        angles = l .angles-are;
+        marks = l .marks-are;
+        spreads = l .spreads-are;
+        whole = l .whole;
+        corners = l .corners;
+        edges = l .edges;
+        placed = placed (i .xs) (i .ys) (v .0);
+        named = named (length (i .xs)) (i .triangles) (v .1);
+      },
+      l .classes-are,
+    )

@@ -1,0 +1,46 @@
+-- The call `classify_all_edges` whole: rows 1 to 6 in order, or every half-edge's class in the class list.
+use mathlib.Core.List.{List}
+use Prim.Native.Nat.{ℕ}
+use lib.Ieee.{Float}
+use lib.ListN.{length}
+use Rattle.refusal.specs.declared.Gate.{Gate}
+use Rattle.refusal.specs.declared.Gate.the-variants.{Open, Shut}
+use Rattle.refusal.specs.Rows.{_then_}
+use Rattle.measure.specs.Parameter.{parameterRow}
+use Rattle.mesh.specs.Lists.{pairedRow, doubledRow, wholeRow, limitRow, mostCorners, mostHalfEdges}
+use Rattle.mesh.specs.Positions.{positionsRow}
+use Rattle.mesh.specs.Cells.{cornersRow, twiceRow}
+use Rattle.classify.specs.declared.EdgeParams.{EdgeParams}
+use Rattle.classify.specs.declared.Classified.{Classified}
+use Rattle.classify.specs.declared.Classified.the-variants.{Done, Refused}
+use Rattle.classify.specs.Classes.{Input, classesOf}
+
+-- rows 1 and 2 look at lengths alone: x, y, axes at two slots a corner; triangles, classes
+unfoldable pub lengthsGate : (x y angles marks spreads triangles classes : ℕ) → Gate
+lengthsGate x y angles marks spreads triangles classes =
+    pairedRow y x then doubledRow angles x then doubledRow marks x then doubledRow spreads x then wholeRow triangles 3 then pairedRow classes triangles
+    then limitRow x mostCorners then limitRow triangles mostHalfEdges
+
+-- rows 3 to 6 look at what the lists hold
+unfoldable pub valuesGate : List Float → List Float → List ℕ → EdgeParams → Gate
+valuesGate xs ys triangles params =
+    parameterRow (params .tolerance) 0 then parameterRow (params .spread .limit) 4
+    then positionsRow xs ys then cornersRow (length xs) triangles then twiceRow 3 triangles
+
+-- for a class list of that length
+unfoldable pub gateOf : Input → ℕ → Gate
+gateOf i classes =
+    lengthsGate (length (i .xs)) (length (i .ys)) (length (i .angles)) (length (i .marks)) (length (i .spreads)) (length (i .triangles)) classes
+    then valuesGate (i .xs) (i .ys) (i .triangles) (i .params)
+
+-- the answer, and the class list after the call
+pub record Outcome : Type 0 where
+  pub answer : Classified
+  pub classes : List ℕ
+
+abbrev pub outcomeBy : Gate → Input → List ℕ → Outcome
+outcomeBy Open i classes = record { answer = Done; classes = classesOf i }
+outcomeBy (Shut why) i classes = record { answer = Refused why; classes = classes }
+
+unfoldable pub callOf : Input → List ℕ → Outcome
+callOf i classes = outcomeBy (gateOf i (length classes)) i classes

@@ -1,0 +1,68 @@
+-- Document 01, "Classes", at one half-edge: the nearest informative axis at each end, and whether the half-edge is Grid.
+use mathlib.Core.Bool.{Bool, cond, _&&_, not}
+use Prim.Native.Nat.{ℕ}
+use lib.Dec.{eqb}
+use lib.Ieee as Ieee
+use lib.Ieee.{Float}
+use Rattle.measure.specs.Distance.{distanceOf}
+use Rattle.measure.specs.declared.Distance.{Distance}
+use Rattle.measure.specs.declared.Distance.the-variants as distance
+use Rattle.axis.specs.declared.AxisCache.{AxisCache}
+use Rattle.classify.specs.declared.Match.{Match}
+use Rattle.classify.specs.declared.Match.the-variants.{Missing, Found}
+use Rattle.classify.specs.declared.Side.{Side}
+use Rattle.classify.specs.declared.Sides.{Sides}
+use Rattle.classify.specs.declared.Words.{Words}
+use Rattle.classify.specs.declared.Judged.{Judged}
+use Rattle.classify.specs.declared.Judged.the-variants as judged
+use Rattle.classify.specs.declared.Class.{Class}
+use Rattle.classify.specs.declared.Class.the-variants as class
+
+-- the distance of an informative axis; any other is skipped
+unfoldable pub offered : Bool → Float → Float → Distance
+offered informative angle axis = cond informative (distanceOf angle axis) distance.Missing
+
+-- the nearest of two slots, slot 0 on equal distance; a missing distance is skipped
+unfoldable pub nearer : Distance → Distance → Match
+nearer (distance.Known d0) (distance.Known d1) = cond (Ieee.lt d1 d0) (Found 1 d1) (Found 0 d0)
+nearer (distance.Known d0) distance.Missing = Found 0 d0
+nearer distance.Missing (distance.Known d1) = Found 1 d1
+nearer distance.Missing distance.Missing = Missing
+
+unfoldable pub matchOf : AxisCache → Float → Match
+matchOf cache angle = nearer (offered (cache .informative0) angle (cache .angle0)) (offered (cache .informative1) angle (cache .angle1))
+
+-- a half-edge by its angle and the axes of the corners it runs from and to
+unfoldable pub sideOf : AxisCache → AxisCache → Float → Side
+sideOf start end angle = record { start = matchOf start angle; end = matchOf end angle }
+
+-- Grid, with the slots, when both ends have a distance strictly below the tolerance; a missing match at either end is Spurious at once
+unfoldable pub judgedBy : Float → Match → Match → Judged
+judgedBy tolerance (Found s0 d0) (Found s1 d1) = cond (Ieee.lt d0 tolerance && Ieee.lt d1 tolerance) (judged.Grid s0 s1) judged.Spurious
+judgedBy tolerance (Found s0 d0) Missing = judged.Spurious
+judgedBy tolerance Missing end = judged.Spurious
+
+unfoldable pub judgedOf : Float → Side → Judged
+judgedOf tolerance side = judgedBy tolerance (side .start) (side .end)
+
+-- the class of a half-edge by its own judgement and those of the two after it in the triangle, which meet where the first of them ends:
+-- the third side of a triangle with exactly two Grid sides whose slots differ at their common corner is Diagonal
+unfoldable pub classBy : Judged → Judged → Judged → Class
+classBy (judged.Grid s0 s1) next last = class.Grid
+classBy judged.Spurious (judged.Grid n0 n1) (judged.Grid l0 l1) = cond (not (eqb n1 l0)) class.Diagonal class.Spurious
+classBy judged.Spurious (judged.Grid n0 n1) judged.Spurious = class.Spurious
+classBy judged.Spurious judged.Spurious last = class.Spurious
+
+-- in a list a class is 0 Spurious, 1 Grid, 2 Diagonal
+abbrev pub classNumber : Class → ℕ
+classNumber class.Spurious = 0
+classNumber class.Grid = 1
+classNumber class.Diagonal = 2
+
+-- the words of a triangle's three half-edges: each by its own judgement and those of the next two
+unfoldable pub classWords : Float → Sides → Words
+classWords tolerance sides =
+    let a = judgedOf tolerance (sides .first) in
+    let b = judgedOf tolerance (sides .second) in
+    let c = judgedOf tolerance (sides .third) in
+    record { first = classNumber (classBy a b c); second = classNumber (classBy b c a); third = classNumber (classBy c a b) }

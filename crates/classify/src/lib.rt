@@ -1,0 +1,91 @@
+// Classes of half-edges: Grid where both ends have an axis near enough, Diagonal across two such sides, else Spurious.
+// `classify_all_edges` is the call; `inner` has the stage without its checks and the judgement of one triangle.
+ghost use Rattle.classify.specs.Call.{Outcome, callOf};
+use axis::SpreadRule;
+use refusal::Gate;
+use refusal::Refusal;
+
+mod gate;
+mod half_edge;
+pub mod inner;
+
+pub enum Class {
+    Spurious,
+    Grid,
+    Diagonal,
+}
+
+// The nearest informative axis at a corner: its slot and its distance.
+pub enum Match {
+    Missing,
+    Found(u32, f32),
+}
+
+// A half-edge with its match at the corner it runs from and at the one it runs to.
+pub struct Side {
+    pub start: Match,
+    pub end: Match,
+}
+
+// The three sides of a triangle, in order.
+pub struct Sides {
+    pub first: Side,
+    pub second: Side,
+    pub third: Side,
+}
+
+// The class numbers of a triangle's three half-edges, in order.
+pub struct Words {
+    pub first: u32,
+    pub second: u32,
+    pub third: u32,
+}
+
+// A half-edge for itself: Grid with the slots at its start and its end.
+pub enum Judged {
+    Spurious,
+    Grid(u32, u32),
+}
+
+pub struct EdgeParams {
+    pub tolerance: f32,
+    pub spread: SpreadRule,
+}
+
+pub enum Classified {
+    Done,
+    Refused(Refusal),
+}
+
+// Writes the class of every half-edge: 0 Spurious, 1 Grid, 2 Diagonal.
+pub fn classify_all_edges(
+    x: &[f32],
+    y: &[f32],
+    angles: &[f32],
+    marks: &[u32],
+    spreads: &[f32],
+    triangles: &[u32],
+    params: EdgeParams,
+    classes: &mut [u32],
+) -> Classified
+    ensures { λ r. ⌜ _≡_ {A = Outcome} (record { answer = r; classes = now (classes .exit) })
+        (callOf (record { xs = now (x .entry); ys = now (y .entry); angles = now (angles .entry); marks = now (marks .entry); spreads = now (spreads .entry); triangles = now (triangles .entry); params = params }) (now (classes .entry))) ⌝ }
+{
+    let gate = gate::judge(
+        x,
+        y,
+        angles,
+        marks,
+        spreads,
+        triangles,
+        params,
+        classes.len(),
+    );
+    match gate {
+        Gate::Shut(why) => Classified::Refused(why),
+        Gate::Open => {
+            inner::classify_triangles(x, y, angles, marks, spreads, triangles, params, classes);
+            Classified::Done
+        }
+    }
+}

@@ -1,0 +1,19 @@
+-- `in_order` is `then`, arm by arm.
+use borrow.Author.Needs.{needs}
+use Rattle.refusal.proofs.inner.in_order.Statement.{statement}
+use Rattle.refusal.proofs.inner.in_order.Tie as tie
+
+enum-told : tie.Need-enum-told
+enum-told c = search needs
+
+enum-known-first : tie.Need-enum-known-first
+enum-known-first c = search needs
+
+returns : tie.Need-returns
+returns c = search needs
+
+returns-2 : tie.Need-returns-2
+returns-2 c = rw (c .before .first .given .1)
+
+pub in-order-spec : {M : Type 1} → statement M
+in-order-spec = tie.close (tie.spec enum-told enum-known-first returns returns-2)
