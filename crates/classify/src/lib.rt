@@ -1,5 +1,6 @@
 // Classes of half-edges: Grid where both ends have an axis near enough, Diagonal across two such sides, else Spurious.
 // `classify_all_edges` is the call; `inner` has the stage without its checks and the judgement of one triangle.
+ghost use mathlib.Core.Path.{_≡_};
 ghost use Rattle.classify.specs.Call.{Outcome, callOf};
 use axis::SpreadRule;
 use refusal::Gate;
