@@ -18,6 +18,7 @@ pub mod Neighbours
 pub mod NoTie
 pub mod RootRule
 pub mod RootComputed
+pub mod Value
 pub mod Length
 pub mod Examples
 pub mod Worked

@@ -20,7 +20,7 @@ use Rattle.measure.proofs.PatternFloats.{bits-value, bits-units, own-un
 -- ---- a multiple is the units of a pattern
 
 -- the pattern of an infinity is where the floats would go on
-infinity : 2 ^ 277 ≡ units 2139095040
+pub infinity : 2 ^ 277 ≡ units 2139095040
 unfolding units sigOf expOf
 infinity = refl
 

@@ -6,6 +6,7 @@ pub mod Distance
 pub mod Root
 pub mod Pattern
 pub mod RootComputed
+pub mod Value
 pub mod Length
 pub mod Examples
 pub mod Worked

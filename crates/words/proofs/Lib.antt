@@ -1,2 +1,4 @@
 pub mod Listing
 pub mod Front
+pub mod Rank
+pub mod Sorting
