@@ -15,17 +15,12 @@ use Rattle.measure.specs.Position.{isPosition}
 use Rattle.mesh.specs.Positions.{misplaced, positionsRow}
 use Rattle.mesh.specs.Cells.{notBelow, cornersRow, twiceRow}
 use Rattle.measure.specs.Parameter.{parameterRow}
+use Rattle.mesh.proofs.Open.{paired-open, limit-open, positions-open, corners-open}
 use Rattle.classify.specs.declared.EdgeParams.{EdgeParams}
 use Rattle.classify.specs.Classes.{Input, Sound}
 use Rattle.classify.specs.Call.{lengthsGate, valuesGate, gateOf}
 
 -- ---- rows 1 and 2
-
-equal : (a b : ℕ) → refuseIf (not (eqb a b)) Unpaired ≡ Open → a ≡ b
-equal a b e = eqb-true a b (not-false (eqb a b) (open-if (not (eqb a b)) Unpaired e))
-
-at-most : (a b : ℕ) → refuseIf (ltb b a) OverLimit ≡ Open → a ≤ b
-at-most a b e = ltb-false b a (open-if (ltb b a) OverLimit e)
 
 pub record Paired (x y angles marks spreads triangles classes : ℕ) : Type 0 where
   pub y-is : y ≡ x
@@ -48,30 +43,17 @@ lengths-open x y a m s t c e =
     let e6 = open-both _ _ (e5 .1) in
     let e7 = open-both _ _ (e6 .1) in
     record {
-      y-is = equal y x (e1 .0);
-      angles-are = equal a (2 * x) (e2 .0);
-      marks-are = equal m (2 * x) (e3 .0);
-      spreads-are = equal s (2 * x) (e4 .0);
-      whole = equal (t % 3) 0 (e5 .0);
-      classes-are = equal c t (e6 .0);
-      corners = at-most x 4096 (e7 .0);
-      edges = at-most t 24576 (e7 .1);
+      y-is = paired-open y x (e1 .0);
+      angles-are = paired-open a (2 * x) (e2 .0);
+      marks-are = paired-open m (2 * x) (e3 .0);
+      spreads-are = paired-open s (2 * x) (e4 .0);
+      whole = paired-open (t % 3) 0 (e5 .0);
+      classes-are = paired-open c t (e6 .0);
+      corners = limit-open x 4096 (e7 .0);
+      edges = limit-open t 24576 (e7 .1);
     }
 
 -- ---- rows 4 and 5
-
-both-true : (a b : Bool) → not (a && b) ≡ false → (a ≡ true) × (b ≡ true)
-both-true true true e = (refl, refl)
-both-true true false e = absurd (false≢true (sym e))
-both-true false b e = absurd (false≢true (sym e))
-
-placed : (xs ys : List Float) → positionsRow xs ys ≡ Open → (k : ℕ) → k < length xs → (isPosition (getD xs k nan) ≡ true) × (isPosition (getD ys k nan) ≡ true)
-unfolding positionsRow misplaced
-placed xs ys e k h = both-true _ _ (open-clear (misplaced xs ys) (length xs) OutOfRange e k h)
-
-named : (n : ℕ) (cells : List ℕ) → cornersRow n cells ≡ Open → (k : ℕ) → k < length cells → getD cells k 0 < n
-unfolding cornersRow notBelow
-named n cells e k h = leb-false n (getD cells k 0) (open-clear (notBelow n cells) (length cells) NoSuchCorner e k h)
 
 values-open : (xs ys : List Float) (triangles : List ℕ) (p : EdgeParams) → valuesGate xs ys triangles p ≡ Open → (positionsRow xs ys ≡ Open) × (cornersRow (length xs) triangles ≡ Open)
 unfolding valuesGate
@@ -97,8 +79,8 @@ gate-sound i classes e =
         whole = l .whole;
         corners = l .corners;
         edges = l .edges;
-        placed = placed (i .xs) (i .ys) (v .0);
-        named = named (length (i .xs)) (i .triangles) (v .1);
+        placed = positions-open (i .xs) (i .ys) (v .0);
+        named = corners-open (length (i .xs)) (i .triangles) (v .1);
       },
       l .classes-are,
     )

@@ -1,6 +1,6 @@
 -- Document 01, "Classes", at one half-edge: the nearest informative axis at each end, and whether the half-edge is Grid.
 use mathlib.Core.Bool.{Bool, cond, _&&_, not}
-use Prim.Native.Nat.{ℕ}
+use Prim.Native.Nat.{ℕ, zero, suc}
 use lib.Dec.{eqb}
 use lib.Ieee as Ieee
 use lib.Ieee.{Float}
@@ -58,6 +58,12 @@ abbrev pub classNumber : Class → ℕ
 classNumber class.Spurious = 0
 classNumber class.Grid = 1
 classNumber class.Diagonal = 2
+
+-- the class that a word of a list is read as; the calls that read a class refuse a word above 2
+abbrev pub classFrom : ℕ → Class
+classFrom zero = class.Spurious
+classFrom (suc zero) = class.Grid
+classFrom (suc (suc n)) = class.Diagonal
 
 -- the words of a triangle's three half-edges: each by its own judgement and those of the next two
 unfoldable pub classWords : Float → Sides → Words

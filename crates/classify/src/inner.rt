@@ -3,7 +3,8 @@ ghost use mathlib.Core.Path.{_≡_};
 ghost use Prim.Native.Nat.{_+_, _*_, _<_};
 ghost use lib.ListN.{length};
 ghost use Rattle.classify.specs.Classes.{Sound, angleBetween, sidesAt, classesOf};
-ghost use Rattle.classify.specs.Match.{classWords};
+ghost use Rattle.classify.specs.Match.{classFrom, classWords};
+use crate::Class;
 use crate::EdgeParams;
 use crate::Sides;
 use crate::Words;
@@ -14,6 +15,19 @@ use crate::half_edge::side_of;
 use axis::SpreadRule;
 use axis::inner::cache_at;
 use words::inner::wide;
+
+// The class that a word of a class list stands for.
+pub fn class_from(word: u32) -> Class
+    ensures { λ r. ⌜ r ≡ classFrom word ⌝ }
+{
+    if word == 0 {
+        return Class::Spurious;
+    }
+    if word == 1 {
+        return Class::Grid;
+    }
+    Class::Diagonal
+}
 
 // The angle from corner a to corner b.
 fn angle_between(x: &[f32], y: &[f32], a: usize, b: usize) -> f32

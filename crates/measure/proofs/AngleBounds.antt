@@ -5,10 +5,11 @@ use Prim.Native.Nat.{ℕ, zero, suc, _+_, _-_, _*_, _≤_, _<_}
 use native.Mathlib.Nat.{le-trans, le-of-eq, le-of-lt, one-mul, mul-le-mul, mul-comm, mul-le-mul-right, lt-irrefl}
 use native.Mathlib.Omega.{arith}
 use borrow.Author.Tests.{ltb-true, ltb-false}
-use lib.Dec.{ltb, lit<, lit≤}
+use lib.Dec.{T, ltb, lit<, lit≤}
 use lib.IntN.{ℤ, pos}
-use lib.Ieee.{Float, fin, binary32, neg, add, sub, mul, div, sum, round, lt, up, down, ofBits}
-use lib.Ieee.Fits.{down-pos}
+use lib.Ieee.{Float, fin, binary32, neg, add, sub, mul, div, sum, round, lt, up, down, ofBits, eq, fits}
+use lib.Ieee.Bits.{ofBits-fits}
+use lib.Ieee.Fits.{down-pos, cond-fits, neg-fits, add-fits, sub-fits}
 use lib.Ieee.Scale.{finite}
 use Rattle.measure.specs.Float.{bits, fraction, signOf, absOf}
 use Rattle.measure.specs.Position.{inReach}
@@ -192,3 +193,33 @@ bounded-finite n x (s, m, e, f, h) = ap finite f
 -- in reach the rule gives a number
 pub angle-finite : (dx dy : Float) → inReach dx ≡ true → inReach dy ≡ true → finite (angleRule dx dy) ≡ true
 angle-finite dx dy p q = bounded-finite 15 (angleRule dx dy) (angle-bounded dx dy p q)
+
+-- ---- and it is a float of the format, for every two
+
+part-fits : (offset z : Float) → T (fits binary32 (partOf offset z))
+unfolding partOf
+part-fits offset z = add-fits binary32 offset (mul binary32 z (seriesOf (mul binary32 z z)))
+
+ratio-fits : (t : Float) → T (fits binary32 (ratioOf t))
+unfolding ratioOf
+ratio-fits t = cond-fits binary32 (lt (fraction 53 128) t) _ _ (part-fits _ _) (part-fits _ _)
+
+base-fits : (lo hi : Float) → T (fits binary32 (baseOf lo hi))
+unfolding baseOf
+base-fits lo hi = cond-fits binary32 (eq hi (bits 0)) _ _ (ofBits-fits binary32 0) (ratio-fits _)
+
+octant-fits : (mx my : Float) → T (fits binary32 (octantOf mx my))
+unfolding octantOf
+octant-fits mx my = cond-fits binary32 (lt mx my) _ _ (sub-fits binary32 _ _) (base-fits _ _)
+
+across-fits : (s : Bool) (b : Float) → T (fits binary32 b) → T (fits binary32 (acrossOf s b))
+unfolding acrossOf
+across-fits s b h = cond-fits binary32 s _ _ (sub-fits binary32 _ _) h
+
+below-fits : (s : Bool) (b : Float) → T (fits binary32 b) → T (fits binary32 (belowOf s b))
+unfolding belowOf
+below-fits s b h = cond-fits binary32 s _ _ (neg-fits binary32 b h) h
+
+pub angle-fits : (dx dy : Float) → T (fits binary32 (angleRule dx dy))
+unfolding angleRule
+angle-fits dx dy = below-fits (signOf dy) _ (across-fits (signOf dx) _ (octant-fits (absOf dx) (absOf dy)))

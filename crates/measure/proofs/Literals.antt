@@ -1,4 +1,4 @@
--- The code's literals are document 01's numbers: each 1/n rounded once, 53/128, and the two ranges. Assumes nothing.
+-- The code's literals are document 01's numbers: each 1/n rounded once, 53/128, 4, and the two ranges. Assumes nothing.
 use mathlib.Core.Path.{_≡_, refl}
 use mathlib.Core.Bool.{true, false}
 use lib.Ieee.{binary32, neg, ofBits, round}
@@ -39,6 +39,10 @@ m15 = refl
 pub bend : bits 0x3ed4_0000 ≡ fraction 53 128
 unfolding ofBits round
 bend = refl
+
+pub four : bits 0x4080_0000 ≡ fraction 4 1
+unfolding ofBits round
+four = refl
 
 pub reach : bits 0x4a00_0000 ≡ fraction 2097152 1
 unfolding ofBits round

@@ -6,7 +6,7 @@ ghost use lib.Ieee.Scale.{finite};
 ghost use Rattle.measure.specs.Angle.{angleRule};
 ghost use Rattle.measure.specs.Length.{lengthOf};
 ghost use Rattle.measure.specs.Parameter.{parameterRow};
-ghost use Rattle.measure.specs.Position.{isPosition};
+ghost use Rattle.measure.specs.Position.{isPosition, centroidOf};
 use crate::Measured;
 use crate::octant;
 use crate::range;
@@ -59,6 +59,13 @@ pub fn angle_rule(dx: f32, dy: f32) -> f32
         octant::sign_bit(dy),
         octant::across(octant::sign_bit(dx), base),
     )
+}
+
+// The mean of four coordinates, added in order.
+pub fn centroid(p0: f32, p1: f32, p2: f32, p3: f32) -> f32
+    ensures { λ r. ⌜ r ≡ centroidOf p0 p1 p2 p3 ⌝ }
+{
+    (p0 + p1 + p2 + p3) / 4.0
 }
 
 // The length of the difference (dx, dy). Of differences of positions the root is known; of any other pair without a root this is 0.

@@ -1,3 +1,4 @@
 pub mod HalfEdge
 pub mod Some
 pub mod Records
+pub mod Open

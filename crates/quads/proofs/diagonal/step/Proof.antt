@@ -1,0 +1,35 @@
+-- `step` is `stepOf`, class by class.
+use borrow.Author.Tests.{eq-eqb, ne-eqb}
+use Rattle.quads.specs.Diagonal.{stepOf}
+use borrow.Author.Needs.{needs}
+use Rattle.quads.proofs.diagonal.step.Statement.{statement}
+use Rattle.quads.proofs.diagonal.step.Tie as tie
+
+enum-told : tie.Need-enum-told
+enum-told c = search needs
+
+enum-told-2 : tie.Need-enum-told-2
+enum-told-2 c = search needs
+
+enum-told-3 : tie.Need-enum-told-3
+enum-told-3 c = search needs
+
+returns : tie.Need-returns
+unfolding stepOf
+returns c = rw (c .enum-told .given .1)
+
+returns-2 : tie.Need-returns-2
+unfolding stepOf
+returns-2 c = rw (c .enum-told2 .given .1)
+
+returns-3 : tie.Need-returns-3
+unfolding stepOf
+returns-3 c = rw (c .before .enum-told3 .given .1, eq-eqb _ _ (c .if1 .taken))
+
+returns-4 : tie.Need-returns-4
+unfolding stepOf
+returns-4 c = rw (c .before .enum-told3 .given .1, ne-eqb _ _ (c .if1 .left))
+
+pub step-spec : {M : Type 1} → statement M
+step-spec =
+    tie.close (tie.spec enum-told enum-told-2 enum-told-3 returns returns-2 returns-3 returns-4)

@@ -1,0 +1,5 @@
+pub mod Diagonal
+pub mod Union
+pub mod Merge
+pub mod Order
+pub mod Call

@@ -1,0 +1,74 @@
+// The stage without its checks, for a frame whose rows have let it through: counting the quads, and writing them.
+ghost use mathlib.Core.Path.{_≡_};
+ghost use mathlib.Core.Bool.{true};
+ghost use mathlib.Core.List.{[], _∷_, _++_};
+ghost use Prim.Native.Nat.{_+_, _*_, _≤_, _<_};
+ghost use lib.ListN.{length, take, drop};
+ghost use Rattle.quads.specs.Call.{wordsOf};
+ghost use Rattle.quads.specs.Merge.{Settled, Sound, isFour, pairedAt, madeBy, mergedOf, countTo, triangleCount};
+use crate::Pairing;
+use crate::Quad;
+use crate::order::order_corners;
+use crate::pair::next_pair;
+use crate::pair::pair_at;
+
+// How many quads the mesh makes.
+pub fn count_quads(triangles: &[u32], twins: &[u32], classes: &[u32]) -> usize
+    requires { ⌜ Settled (record { triangles = now triangles; twins = now twins; classes = now classes }) ⌝ }
+    ensures { λ r. ⌜ r ≡ countTo (record { triangles = now (triangles .entry); twins = now (twins .entry); classes = now (classes .entry) }) (triangleCount (record { triangles = now (triangles .entry); twins = now (twins .entry); classes = now (classes .entry) })) ⌝ }
+{
+    let count = triangles.len() / 3;
+    let mut made = 0;
+    let mut t = 0;
+    while t < count {
+        t = next_pair(triangles, twins, classes, t);
+        if count <= t {
+            return made;
+        }
+        made += 1;
+        t += 1;
+    }
+    made
+}
+
+// The quad of triangle t, which makes one.
+fn quad_of(x: &[f32], y: &[f32], triangles: &[u32], twins: &[u32], classes: &[u32], t: usize) -> Quad
+    requires { ⌜ Sound (record { xs = now x; ys = now y; mesh = record { triangles = now triangles; twins = now twins; classes = now classes } }) × (3 * t + 2 < length (now triangles)) × (isFour (pairedAt (record { triangles = now triangles; twins = now twins; classes = now classes }) t) ≡ true) ⌝ }
+    ensures { λ r. ⌜ r ∷ [] ≡ madeBy (record { xs = now (x .entry); ys = now (y .entry); mesh = record { triangles = now (triangles .entry); twins = now (twins .entry); classes = now (classes .entry) } }) (pairedAt (record { triangles = now (triangles .entry); twins = now (twins .entry); classes = now (classes .entry) }) t) ⌝ }
+{
+    let pairing = pair_at(triangles, twins, classes, t);
+    match pairing {
+        Pairing::Four(q) => order_corners(x, y, q),
+        Pairing::Alone => Quad { a: 0, b: 0, c: 0, d: 0 },
+    }
+}
+
+fn store(quads: &mut [u32], at: usize, q: Quad)
+    requires { ⌜ at + 3 < length (now quads) ⌝ }
+    ensures { λ _. ⌜ now (quads .exit) ≡ take at (now (quads .entry)) ++ ((q .a ∷ q .b ∷ q .c ∷ q .d ∷ []) ++ drop (at + 4) (now (quads .entry))) ⌝ }
+{
+    quads[at] = q.a;
+    quads[at + 1] = q.b;
+    quads[at + 2] = q.c;
+    quads[at + 3] = q.d;
+}
+
+// The quads at the front of their list. `merge_triangle_pairs` and a frame show what is asked by their rows.
+pub fn write_quads(x: &[f32], y: &[f32], triangles: &[u32], twins: &[u32], classes: &[u32], quads: &mut [u32])
+    requires { ⌜ Sound (record { xs = now x; ys = now y; mesh = record { triangles = now triangles; twins = now twins; classes = now classes } }) × (4 * length (mergedOf (record { xs = now x; ys = now y; mesh = record { triangles = now triangles; twins = now twins; classes = now classes } })) ≤ length (now quads)) ⌝ }
+    ensures { λ _. ⌜ now (quads .exit) ≡ wordsOf (mergedOf (record { xs = now (x .entry); ys = now (y .entry); mesh = record { triangles = now (triangles .entry); twins = now (twins .entry); classes = now (classes .entry) } })) ++ drop (4 * length (mergedOf (record { xs = now (x .entry); ys = now (y .entry); mesh = record { triangles = now (triangles .entry); twins = now (twins .entry); classes = now (classes .entry) } }))) (now (quads .entry)) ⌝ }
+{
+    let count = triangles.len() / 3;
+    let mut at = 0;
+    let mut t = 0;
+    while t < count {
+        t = next_pair(triangles, twins, classes, t);
+        if count <= t {
+            return;
+        }
+        let q = quad_of(x, y, triangles, twins, classes, t);
+        store(quads, at, q);
+        at += 4;
+        t += 1;
+    }
+}
