@@ -1,19 +1,14 @@
 -- What open rows say: the lists pair, are within the limits, hold positions and name corners that exist. Assumes nothing.
-use mathlib.Core.Path.{_≡_, refl, sym}
-use mathlib.Core.Bool.{Bool, true, false, not, _&&_, false≢true}
+use mathlib.Core.Path.{_≡_}
 use mathlib.Core.List.{List}
-use Prim.Native.Nat.{ℕ, _*_, _%_, _≤_, _<_}
-use borrow.Author.Tests.{eqb-true, ltb-false, leb-false, not-false}
-use lib.Dec.{eqb, ltb}
-use lib.Ieee.{Float, nan}
-use lib.ListN.{length, getD}
+use Prim.Native.Nat.{ℕ, _*_, _%_, _≤_}
+use lib.Ieee.{Float}
+use lib.ListN.{length}
 use Rattle.refusal.specs.declared.Gate.the-variants.{Open}
-use Rattle.refusal.specs.declared.Refusal.the-variants.{Unpaired, OverLimit, OutOfRange, NoSuchCorner}
-use Rattle.refusal.specs.Rows.{refuseIf, _then_}
-use Rattle.refusal.proofs.Rows.{open-both, open-if, open-clear}
-use Rattle.measure.specs.Position.{isPosition}
-use Rattle.mesh.specs.Positions.{misplaced, positionsRow}
-use Rattle.mesh.specs.Cells.{notBelow, cornersRow, twiceRow}
+use Rattle.refusal.specs.Rows.{_then_}
+use Rattle.refusal.proofs.Rows.{open-both}
+use Rattle.mesh.specs.Positions.{positionsRow}
+use Rattle.mesh.specs.Cells.{cornersRow, twiceRow}
 use Rattle.measure.specs.Parameter.{parameterRow}
 use Rattle.mesh.proofs.Open.{paired-open, limit-open, positions-open, corners-open}
 use Rattle.classify.specs.declared.EdgeParams.{EdgeParams}

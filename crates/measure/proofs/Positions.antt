@@ -1,7 +1,9 @@
 -- Inside a frame no angle and no length is refused: a difference of two positions is in reach, a centroid of four is a position. Assumes nothing.
-use mathlib.Core.Path.{_≡_, refl}
+use mathlib.Core.Path.{_≡_, refl, sym, subst}
 use mathlib.Core.Bool.{true, false}
 use lib.Ieee.{Float, fin, binary32, add, sub, round}
+use lib.Dec.{T}
+use lib.Ieee.Scale.{finite}
 use lib.IntN.{pos}
 use Rattle.measure.specs.declared.Measured.the-variants.{Known}
 use Rattle.measure.specs.Float.{fraction}
@@ -29,6 +31,9 @@ exact22 = (1, 22, refl, refl)
 position-bounded : (x : Float) → isPosition x ≡ true → Bounded 1048576 x
 unfolding round
 position-bounded x h = within-bounded 1 20 x h
+
+pub position-finite : (x : Float) → isPosition x ≡ true → T (finite x)
+position-finite x h = let b = position-bounded x h in subst (λ (y : Float). T (finite y)) (sym (b .3)) tt
 
 bounded-position : (x : Float) → Bounded 1048576 x → isPosition x ≡ true
 unfolding round

@@ -5,3 +5,7 @@ pub mod Sorted
 pub mod Pairs
 pub mod Made
 pub mod Outcomes
+pub mod Ordered
+pub mod Sixth
+pub mod Angles
+pub mod Apart

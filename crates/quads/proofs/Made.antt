@@ -104,7 +104,7 @@ held-more qs q before now after at e room held stored =
     let k : length w ≡ at = length-words qs ∙ sym e in
     let front : take at now ≡ w = ap (take at) held ∙ take-at w r at k in
     let back : drop (at + 4) now ≡ drop (4 * length (qs ++ (q ∷ []))) before =
-        ap (drop (at + 4)) held ∙ ap (λ (n : ℕ). drop (n + 4) (w ++ r)) (sym k) ∙ drop-append-add w r 4 ∙ drop-drop 4 (4 * length qs) before ∙ ap (λ (n : ℕ). drop n before) (up qs q) in
+    ap (drop (at + 4)) held ∙ ap (λ (n : ℕ). drop (n + 4) (w ++ r)) (sym k) ∙ drop-append-add w r 4 ∙ drop-drop 4 (4 * length qs) before ∙ ap (λ (n : ℕ). drop n before) (up qs q) in
     let four = q .a ∷ q .b ∷ q .c ∷ q .d ∷ [] in
     stored
     ∙ ap (λ (l : List ℕ). l ++ (four ++ drop (at + 4) now)) front

@@ -1,9 +1,9 @@
 -- What a triangle that makes a quad has: an only diagonal, a twin in a higher triangle whose only diagonal it is, and a union of four
 -- corners, the first triangle's three and a new one. Assumes nothing.
-use mathlib.Core.Path.{_≡_, refl, sym, ap, _∙_, subst}
+use mathlib.Core.Path.{_≡_, refl, sym, ap, subst}
 use mathlib.Core.Bool.{Bool, true, false, cond, false≢true}
-use mathlib.Core.List.{List, [], _∷_, _++_}
-use Prim.Native.Nat.{ℕ, _+_, _*_, _/_, _%_, _≤_, _<_}
+use mathlib.Core.List.{List, [], _∷_}
+use Prim.Native.Nat.{ℕ, _+_, _*_, _<_}
 use native.Mathlib.Omega.{arith}
 use borrow.Author.Tests.{eqb-true, eqb-false, ltb-true}
 use lib.Dec.{eqb, ltb}
@@ -116,8 +116,8 @@ unfolding unionOf newTo
 four-corners triangles t u q P px py pz e =
     let own = cornersOf triangles t in
     let r = one-new _ _ _ (getD triangles (3 * u) 0) (getD triangles (3 * u + 1) 0) (getD triangles (3 * u + 2) 0) q (λ (d : ℕ). (isIn d own ≡ false) × P d)
-        (isIn (getD triangles (3 * u) 0) own) (isIn (getD triangles (3 * u + 1) 0) own) (isIn (getD triangles (3 * u + 2) 0) own)
-        (λ f. (f, px)) (λ f. (f, py)) (λ f. (f, pz)) e in
+    (isIn (getD triangles (3 * u) 0) own) (isIn (getD triangles (3 * u + 1) 0) own) (isIn (getD triangles (3 * u + 2) 0) own)
+    (λ f. (f, px)) (λ f. (f, py)) (λ f. (f, pz)) e in
     record { first = r .0; second = r .1; third = r .2; fresh = r .3 .0; has = r .3 .1 }
 
 -- ---- the four corners exist

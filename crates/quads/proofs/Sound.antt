@@ -1,14 +1,9 @@
 -- What open rows say of a mesh: the lists pair and are within the limits, corners exist and differ, twins are in the list and point back.
 -- Assumes nothing.
-use mathlib.Core.Path.{_≡_, refl, sym, ap, _∙_}
-use mathlib.Core.Bool.{Bool, true, false, not, cond, _&&_, _||_, false≢true}
-use mathlib.Core.List.{List}
-use Prim.Native.Nat.{ℕ, _+_, _*_, _%_, _≤_, _<_}
-use borrow.Author.Tests.{eqb-true, eqb-false, eq-eqb, ne-eqb, ltb-false, leb-false, not-false}
-use lib.Dec.{eqb, ltb, leb}
-use lib.Ieee.{Float, nan}
-use lib.ListN.{length, getD}
-use Rattle.refusal.specs.declared.Gate.{Gate}
+use mathlib.Core.Path.{_≡_}
+use mathlib.Core.Bool.{false}
+use Prim.Native.Nat.{ℕ, _%_, _≤_, _<_}
+use lib.ListN.{length}
 use Rattle.refusal.specs.declared.Gate.the-variants.{Open}
 use Rattle.refusal.specs.Rows.{_then_}
 use Rattle.refusal.proofs.Rows.{open-both}

@@ -2,7 +2,6 @@
 use mathlib.Core.List.{List, [], _∷_, _++_}
 use Prim.Native.Nat.{ℕ, _*_, _/_}
 use lib.Dec.{ltb}
-use lib.Ieee.{Float}
 use lib.ListN.{length, drop}
 use Rattle.refusal.specs.declared.Gate.{Gate}
 use Rattle.refusal.specs.declared.Gate.the-variants.{Open, Shut}

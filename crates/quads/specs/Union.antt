@@ -4,7 +4,6 @@ use mathlib.Core.List.{List, [], _∷_, _++_}
 use Prim.Native.Nat.{ℕ, _+_, _*_}
 use lib.Dec.{eqb}
 use lib.ListN.{getD}
-use Rattle.quads.specs.declared.Quad.{Quad}
 use Rattle.quads.specs.declared.Pairing.{Pairing}
 use Rattle.quads.specs.declared.Pairing.the-variants.{Alone, Four}
 

@@ -14,13 +14,7 @@ fn step(seen: usize, k: usize, class: Class) -> usize
     match class {
         Class::Spurious => 4,
         Class::Grid => seen,
-        Class::Diagonal => {
-            if seen == 3 {
-                k
-            } else {
-                4
-            }
-        }
+        Class::Diagonal => { if seen == 3 { k } else { 4 } }
     }
 }
 

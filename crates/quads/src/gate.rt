@@ -19,7 +19,10 @@ fn lengths_gate(x: usize, y: usize, triangles: usize, twins: usize, classes: usi
     ensures { λ r. ⌜ r ≡ lengthsGate x y triangles twins classes ⌝ }
 {
     let limits = in_order(limit_row(x, 4096), limit_row(triangles, 24576));
-    let edges = in_order(paired_row(twins, triangles), in_order(paired_row(classes, triangles), limits));
+    let edges = in_order(
+        paired_row(twins, triangles),
+        in_order(paired_row(classes, triangles), limits),
+    );
     in_order(paired_row(y, x), in_order(whole_row(triangles, 3), edges))
 }
 
@@ -29,14 +32,23 @@ fn values_gate(x: &[f32], y: &[f32], triangles: &[u32], twins: &[u32], classes: 
     ensures { λ r. ⌜ r ≡ valuesGate (record { xs = now (x .entry); ys = now (y .entry); mesh = record { triangles = now (triangles .entry); twins = now (twins .entry); classes = now (classes .entry) } }) ⌝ }
 {
     let edges = in_order(twice_row(triangles, 3), twins_row(triangles, twins));
-    let named = in_order(corners_row(triangles, x.len()), in_order(classes_row(classes), edges));
+    let named = in_order(
+        corners_row(triangles, x.len()),
+        in_order(classes_row(classes), edges),
+    );
     in_order(positions_row(x, y), named)
 }
 
 pub(crate) fn judge(x: &[f32], y: &[f32], triangles: &[u32], twins: &[u32], classes: &[u32]) -> Gate
     ensures { λ r. ⌜ r ≡ gateOf (record { xs = now (x .entry); ys = now (y .entry); mesh = record { triangles = now (triangles .entry); twins = now (twins .entry); classes = now (classes .entry) } }) ⌝ }
 {
-    let lengths = lengths_gate(x.len(), y.len(), triangles.len(), twins.len(), classes.len());
+    let lengths = lengths_gate(
+        x.len(),
+        y.len(),
+        triangles.len(),
+        twins.len(),
+        classes.len(),
+    );
     match lengths {
         Gate::Open => values_gate(x, y, triangles, twins, classes),
         Gate::Shut(why) => Gate::Shut(why),

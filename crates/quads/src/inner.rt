@@ -32,14 +32,26 @@ pub fn count_quads(triangles: &[u32], twins: &[u32], classes: &[u32]) -> usize
 }
 
 // The quad of triangle t, which makes one.
-fn quad_of(x: &[f32], y: &[f32], triangles: &[u32], twins: &[u32], classes: &[u32], t: usize) -> Quad
+fn quad_of(
+    x: &[f32],
+    y: &[f32],
+    triangles: &[u32],
+    twins: &[u32],
+    classes: &[u32],
+    t: usize,
+) -> Quad
     requires { ⌜ Sound (record { xs = now x; ys = now y; mesh = record { triangles = now triangles; twins = now twins; classes = now classes } }) × (3 * t + 2 < length (now triangles)) × (isFour (pairedAt (record { triangles = now triangles; twins = now twins; classes = now classes }) t) ≡ true) ⌝ }
     ensures { λ r. ⌜ r ∷ [] ≡ madeBy (record { xs = now (x .entry); ys = now (y .entry); mesh = record { triangles = now (triangles .entry); twins = now (twins .entry); classes = now (classes .entry) } }) (pairedAt (record { triangles = now (triangles .entry); twins = now (twins .entry); classes = now (classes .entry) }) t) ⌝ }
 {
     let pairing = pair_at(triangles, twins, classes, t);
     match pairing {
         Pairing::Four(q) => order_corners(x, y, q),
-        Pairing::Alone => Quad { a: 0, b: 0, c: 0, d: 0 },
+        Pairing::Alone => Quad {
+            a: 0,
+            b: 0,
+            c: 0,
+            d: 0,
+        },
     }
 }
 
@@ -54,7 +66,14 @@ fn store(quads: &mut [u32], at: usize, q: Quad)
 }
 
 // The quads at the front of their list. `merge_triangle_pairs` and a frame show what is asked by their rows.
-pub fn write_quads(x: &[f32], y: &[f32], triangles: &[u32], twins: &[u32], classes: &[u32], quads: &mut [u32])
+pub fn write_quads(
+    x: &[f32],
+    y: &[f32],
+    triangles: &[u32],
+    twins: &[u32],
+    classes: &[u32],
+    quads: &mut [u32],
+)
     requires { ⌜ Sound (record { xs = now x; ys = now y; mesh = record { triangles = now triangles; twins = now twins; classes = now classes } }) × (4 * length (mergedOf (record { xs = now x; ys = now y; mesh = record { triangles = now triangles; twins = now twins; classes = now classes } })) ≤ length (now quads)) ⌝ }
     ensures { λ _. ⌜ now (quads .exit) ≡ wordsOf (mergedOf (record { xs = now (x .entry); ys = now (y .entry); mesh = record { triangles = now (triangles .entry); twins = now (twins .entry); classes = now (classes .entry) } })) ++ drop (4 * length (mergedOf (record { xs = now (x .entry); ys = now (y .entry); mesh = record { triangles = now (triangles .entry); twins = now (twins .entry); classes = now (classes .entry) } }))) (now (quads .entry)) ⌝ }
 {

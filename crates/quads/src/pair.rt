@@ -3,7 +3,7 @@ ghost use mathlib.Core.Path.{_≡_};
 ghost use mathlib.Core.List.{_∷_, [], _++_};
 ghost use Prim.Native.Nat.{_+_, _*_, _/_, _≤_, _<_};
 ghost use lib.ListN.{length};
-ghost use Rattle.quads.specs.Union.{isIn, newTo, cornersOf, unionOf, fourFrom};
+ghost use Rattle.quads.specs.Union.{isIn, newTo, unionOf, fourFrom};
 ghost use Rattle.quads.specs.Merge.{isFour, Settled, pairedBy, pairedAt, NextPair};
 use crate::Found;
 use crate::Pairing;
@@ -67,7 +67,14 @@ fn union_of(triangles: &[u32], t: usize, u: usize) -> Pairing
     let a = triangles[3 * t];
     let b = triangles[3 * t + 1];
     let c = triangles[3 * t + 2];
-    with_new(a, b, c, triangles[3 * u], triangles[3 * u + 1], triangles[3 * u + 2])
+    with_new(
+        a,
+        b,
+        c,
+        triangles[3 * u],
+        triangles[3 * u + 1],
+        triangles[3 * u + 2],
+    )
 }
 
 // t's pairing across half-edge w, the twin of its only diagonal.

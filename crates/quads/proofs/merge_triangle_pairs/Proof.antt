@@ -3,7 +3,7 @@ use mathlib.Core.Path.{_≡_, sym, _∙_}
 use Prim.Native.Nat.{ℕ, _*_, _/_, _≤_, _<_}
 use native.Mathlib.Omega.{arith}
 use lib.ListN.{length}
-use Rattle.quads.specs.Merge.{Input, Mesh, mergedOf, countTo, triangleCount}
+use Rattle.quads.specs.Merge.{Input, mergedOf, triangleCount}
 use Rattle.quads.proofs.Sound.{gate-sound}
 use Rattle.quads.proofs.Made.{count-is, count-le}
 use Rattle.quads.proofs.Outcomes.{refused, short, done}

@@ -1,5 +1,5 @@
 -- `count_quads`: after all triangles below t, `made` is how many of them make a quad.
-use Prim.Native.Nat.{ℕ, _+_, _-_, _≤_, _<_}
+use Prim.Native.Nat.{ℕ, _+_, _-_, _≤_}
 use mathlib.Core.Path.{_≡_, sym, ap, _∙_}
 use mathlib.Core.List.{List}
 use native.Mathlib.Omega.{arith}
@@ -26,7 +26,7 @@ next-pair-requires : tie.Need-next-pair-requires Inv-loop μ-loop
 next-pair-requires c κs = (c .before .before .before .before .before .pre, omega arith)
 
 returns : tie.Need-returns Inv-loop μ-loop
-returns c = 
+returns c =
     let n = c .before .next-pair .ensures in
     let l = c .before .before .before .loop in
     let s = c .before .before .before .before .before .before .before .args in
@@ -35,7 +35,7 @@ returns c =
     l .inv .1 ∙ sym (count-passed m _ _ (n .past) (n .clear)) ∙ ap (countTo m) e
 
 add-made : tie.Need-add-made Inv-loop μ-loop
-add-made c = 
+add-made c =
     let l = c .before .before .before .loop in
     let s = c .before .before .before .before .before .before .before .args in
     omega (arith, l .inv .1, count-le (given (s .triangles .now) (s .twins .now) (s .classes .now)) (l .t))
@@ -47,7 +47,7 @@ loop-less : tie.Need-loop-less Inv-loop μ-loop
 loop-less c = let n = c .before .next-pair .ensures in omega (arith, n .past)
 
 loop-again : tie.Need-loop-again Inv-loop μ-loop
-loop-again c = 
+loop-again c =
     let n = c .before .next-pair .ensures in
     let l = c .before .before .before .loop in
     (omega (arith, n .reach), ap (λ (k : ℕ). k + 1) (l .inv .1 ∙ sym (count-passed _ _ _ (n .past) (n .clear))) ∙ sym (count-more _ _ (n .hit (c .if1 .left))))

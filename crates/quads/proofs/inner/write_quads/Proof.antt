@@ -1,13 +1,13 @@
 -- `write_quads`: after all triangles below t their quads stand at the front, and the rest of the list is as it was.
 use Prim.Native.Nat.{ℕ, _+_, _-_, _*_, _≤_, _<_}
-use mathlib.Core.Path.{_≡_, refl, sym, ap, _∙_, subst}
+use mathlib.Core.Path.{_≡_, refl, sym, ap, _∙_}
 use mathlib.Core.List.{List, [], _∷_, _++_}
 use native.Mathlib.Omega.{arith}
 use lib.Ieee.{Float}
-use lib.ListN.{length, drop, length-append}
+use lib.ListN.{length, length-append}
 use Rattle.quads.specs.declared.Quad.{Quad}
 use Rattle.quads.specs.Call.{wordsOf}
-use Rattle.quads.specs.Merge.{Mesh, Input, pairedAt, madeBy, quadsTo, mergedOf, triangleCount}
+use Rattle.quads.specs.Merge.{Input, pairedAt, madeBy, quadsTo, mergedOf, triangleCount}
 use Rattle.quads.proofs.Made.{made-more, passed, grows, Held, held-more, held-length, held-by}
 use borrow.Author.Needs.{needs}
 use Rattle.quads.proofs.inner.write_quads.Statement.{statement}
