@@ -2,3 +2,4 @@ pub mod Sound
 pub mod Triangle
 pub mod Outcomes
 pub mod Angles
+pub mod Worked

@@ -21,12 +21,9 @@ wholeRow n size = refuseIf (not (eqb (n % size) 0)) Unpaired
 abbrev pub limitRow : ℕ → ℕ → Gate
 limitRow count most = refuseIf (ltb most count) OverLimit
 
--- at most 4,096 corners, 24,576 half-edges and 4,096 quads
+-- at most 4,096 corners and 24,576 half-edges
 abbrev pub mostCorners : ℕ
 mostCorners = 4096
 
 abbrev pub mostHalfEdges : ℕ
 mostHalfEdges = 24576
-
-abbrev pub mostQuads : ℕ
-mostQuads = 4096

@@ -9,3 +9,4 @@ pub mod Ordered
 pub mod Sixth
 pub mod Angles
 pub mod Apart
+pub mod Worked

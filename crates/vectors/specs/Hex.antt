@@ -1,0 +1,30 @@
+-- Words as text: eight upper-case hex digits, the highest first.
+use mathlib.Core.Bool.{cond}
+use mathlib.Core.List.{List, [], _∷_}
+use Prim.Native.Nat.{ℕ, _+_, _*_, _-_, _/_, _%_}
+use lib.Dec.{leb, ltb}
+use lib.ListN.{length, getD}
+
+-- the value of a digit; any other byte counts as 0
+unfoldable pub valueOf : ℕ → ℕ
+valueOf byte =
+    cond (ltb byte 48) 0 (cond (ltb byte 58) (byte - 48) (cond (ltb byte 65) 0 (cond (ltb byte 71) (byte - 55) 0)))
+
+-- the number that four digits spell, the first of them at `at`
+abbrev pub fourAt : List ℕ → ℕ → ℕ
+fourAt text at =
+    ((valueOf (getD text at 0) * 16 + valueOf (getD text (at + 1) 0)) * 16 + valueOf (getD text (at + 2) 0)) * 16
+    + valueOf (getD text (at + 3) 0)
+
+-- the word whose digits begin at `at`; 0 where the text ends before its last
+unfoldable pub wordAt : List ℕ → ℕ → ℕ
+wordAt text at = cond (leb (at + 8) (length text)) (fourAt text at * 65536 + fourAt text (at + 4)) 0
+
+abbrev pub digitOf : ℕ → ℕ
+digitOf value = cond (ltb value 10) (value + 48) (value + 55)
+
+abbrev pub hexOf : ℕ → List ℕ
+hexOf word =
+    digitOf (word / 0x10000000 % 16) ∷ digitOf (word / 0x1000000 % 16) ∷ digitOf (word / 0x100000 % 16)
+    ∷ digitOf (word / 0x10000 % 16) ∷ digitOf (word / 0x1000 % 16) ∷ digitOf (word / 0x100 % 16)
+    ∷ digitOf (word / 0x10 % 16) ∷ digitOf (word % 16) ∷ []
