@@ -31,7 +31,7 @@ unfolding pairedBy
 returns-2 c = rw (ne-eqb _ _ (c .before .before .if1 .left), ← c .before .wide .ensures, le-ltb _ _ (c .if2 .taken))
 
 only-diagonal-requires : tie.Need-only-diagonal-requires
-only-diagonal-requires c κs = rw (c .before .before .before .before .before .before .pre .0 .classes) (third _ _ (c .before .before .before .before .before .before .pre .0 .whole) (inside (c .before)))
+only-diagonal-requires c κs = rw (c .before .before .before .before .before .before .pre .0 .classes) (omega (arith, c .before .before .before .before .before .before .pre .0 .whole, c .before .before .before .before .before .before .pre .1, inside (c .before)))
 
 is-at-requires : tie.Need-is-at-requires
 is-at-requires c κs = search needs
