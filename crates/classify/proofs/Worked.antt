@@ -1,6 +1,6 @@
 -- Document 01's frame computed by the definitions: its classes, and a distance equal to the tolerance. Assumes nothing.
 use mathlib.Core.Path.{_≡_, refl}
-use mathlib.Core.List.{List, [], _∷_}
+use mathlib.Core.List.{[], _∷_}
 use lib.Ieee.{Float, neg, ofBits, round, add, sub, mul, div, rem, lt, eq, le}
 use Rattle.words.specs.Listing.{listing}
 use Rattle.measure.specs.Float.{bits}

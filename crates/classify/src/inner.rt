@@ -37,7 +37,7 @@ fn angle_between(x: &[f32], y: &[f32], a: usize, b: usize) -> f32
     measure::inner::angle_rule(x[b] - x[a], y[b] - y[a])
 }
 
-// Triangle t's sides, each with both slots and both distances.
+// Triangle t's sides, each with both slots and both distances. `classify_triangles` hands on what is asked.
 pub fn judge_triangle(
     x: &[f32],
     y: &[f32],

@@ -177,7 +177,7 @@ four-different i s t q h e = (
 -- ---- every quad of the merged list
 
 -- what every quad that a triangle below t makes has, every quad made so far has
-made-have : (i : Input) (P : Quad → Type 0) (t : ℕ) → ((k : ℕ) (q : Quad) → k < t → pairedAt (i .mesh) k ≡ Four q → P (orderOf (i .xs) (i .ys) q)) → (q : Quad) → List·Memᴰ q (quadsTo i t) → P q
+pub made-have : (i : Input) (P : Quad → Type 0) (t : ℕ) → ((k : ℕ) (q : Quad) → k < t → pairedAt (i .mesh) k ≡ Four q → P (orderOf (i .xs) (i .ys) q)) → (q : Quad) → List·Memᴰ q (quadsTo i t) → P q
 unfolding quadsTo
 made-have i P zero each q m = absurd (List·Memᴰ·not-nil m)
 made-have i P (suc t) each q m = go (λ n. made-have i P t (λ k r l e. each k r (omega arith) e) q n) (pairedAt (i .mesh) t) refl (List·Memᴰ·append-cases (quadsTo i t) m)

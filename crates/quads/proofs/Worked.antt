@@ -1,6 +1,6 @@
 -- Document 01's frame computed by the definitions: its one quad; and class lists with none. Assumes nothing.
 use mathlib.Core.Path.{_≡_, refl}
-use mathlib.Core.List.{List, [], _∷_, _++_}
+use mathlib.Core.List.{List, [], _∷_}
 use Prim.Native.Nat.{ℕ}
 use lib.Ieee.{neg, ofBits, round, add, sub, mul, div, lt, eq, le}
 use Rattle.refusal.specs.First.{firstOf}

@@ -12,7 +12,7 @@ use crate::order::order_corners;
 use crate::pair::next_pair;
 use crate::pair::pair_at;
 
-// How many quads the mesh makes.
+// How many quads the mesh makes. `merge_triangle_pairs` and a frame show what is asked by their rows.
 pub fn count_quads(triangles: &[u32], twins: &[u32], classes: &[u32]) -> usize
     requires { ⌜ Settled (record { triangles = now triangles; twins = now twins; classes = now classes }) ⌝ }
     ensures { λ r. ⌜ r ≡ countTo (record { triangles = now (triangles .entry); twins = now (twins .entry); classes = now (classes .entry) }) (triangleCount (record { triangles = now (triangles .entry); twins = now (twins .entry); classes = now (classes .entry) })) ⌝ }

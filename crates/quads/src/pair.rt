@@ -2,7 +2,7 @@
 ghost use mathlib.Core.Path.{_≡_};
 ghost use mathlib.Core.List.{_∷_, [], _++_};
 ghost use Prim.Native.Nat.{_+_, _*_, _/_, _≤_, _<_};
-ghost use lib.ListN.{length};
+ghost use lib.ListN.{length, getD};
 ghost use Rattle.quads.specs.Union.{isIn, newTo, unionOf, fourFrom};
 ghost use Rattle.quads.specs.Merge.{isFour, Settled, pairedBy, pairedAt, NextPair};
 use crate::Found;
@@ -77,11 +77,12 @@ fn union_of(triangles: &[u32], t: usize, u: usize) -> Pairing
     )
 }
 
-// t's pairing across half-edge w, the twin of its only diagonal.
-fn pair_across(triangles: &[u32], twins: &[u32], classes: &[u32], t: usize, w: u32) -> Pairing
-    requires { ⌜ Settled (record { triangles = now triangles; twins = now twins; classes = now classes }) × (3 * t + 2 < length (now triangles)) × ((w ≡ 4294967295 → ⊥) → w < length (now triangles)) ⌝ }
-    ensures { λ r. ⌜ r ≡ pairedBy (record { triangles = now (triangles .entry); twins = now (twins .entry); classes = now (classes .entry) }) t w ⌝ }
+// t's pairing across half-edge e, its only diagonal.
+fn pair_across(triangles: &[u32], twins: &[u32], classes: &[u32], t: usize, e: usize) -> Pairing
+    requires { ⌜ Settled (record { triangles = now triangles; twins = now twins; classes = now classes }) × (3 * t + 2 < length (now triangles)) × (3 * t ≤ e) × (e < 3 * t + 3) ⌝ }
+    ensures { λ r. ⌜ r ≡ pairedBy (record { triangles = now (triangles .entry); twins = now (twins .entry); classes = now (classes .entry) }) t (getD (now (twins .entry)) e 0) ⌝ }
 {
+    let w = twins[e];
     if w == NO_TWIN {
         return Pairing::Alone;
     }
@@ -105,7 +106,7 @@ pub(crate) fn pair_at(triangles: &[u32], twins: &[u32], classes: &[u32], t: usiz
     let Found::At(e) = found else {
         return Pairing::Alone;
     };
-    pair_across(triangles, twins, classes, t, twins[e])
+    pair_across(triangles, twins, classes, t, e)
 }
 
 // Whether triangle t makes a quad.
