@@ -11,6 +11,7 @@ use Rattle.measure.specs.Angle.{angleRule}
 use Rattle.measure.specs.Position.{isPosition}
 use Rattle.axis.specs.declared.AxisCache.{AxisCache}
 use Rattle.axis.specs.Cache.{cacheAt}
+use Rattle.mesh.specs.Lists.{mostCorners, mostHalfEdges}
 use Rattle.mesh.specs.HalfEdge.{nextOf, startOf, endOf}
 use Rattle.classify.specs.declared.EdgeParams.{EdgeParams}
 use Rattle.classify.specs.declared.Side.{Side}
@@ -36,8 +37,8 @@ pub record Sound (i : Input) : Type 0 where
   pub marks : length (i .marks) ≡ 2 * length (i .xs)
   pub spreads : length (i .spreads) ≡ 2 * length (i .xs)
   pub whole : length (i .triangles) % 3 ≡ 0
-  pub corners : length (i .xs) ≤ 4096
-  pub edges : length (i .triangles) ≤ 24576
+  pub corners : length (i .xs) ≤ mostCorners
+  pub edges : length (i .triangles) ≤ mostHalfEdges
   pub placed : (k : ℕ) → k < length (i .xs) → (isPosition (getD (i .xs) k nan) ≡ true) × (isPosition (getD (i .ys) k nan) ≡ true)
   pub named : (e : ℕ) → e < length (i .triangles) → getD (i .triangles) e 0 < length (i .xs)
 

@@ -2,11 +2,14 @@
 ghost use mathlib.Core.Path.{_≡_};
 ghost use Prim.Native.Nat.{_≤_};
 ghost use lib.ListN.{length};
+ghost use Rattle.mesh.specs.Lists.{mostCorners, mostHalfEdges};
 ghost use Rattle.classify.specs.Call.{lengthsGate, valuesGate, gateOf};
 use crate::EdgeParams;
 use measure::inner::parameter_row;
 use mesh::inner::cells::corners_row;
 use mesh::inner::cells::twice_row;
+use mesh::inner::lists::MOST_CORNERS;
+use mesh::inner::lists::MOST_HALF_EDGES;
 use mesh::inner::lists::doubled_row;
 use mesh::inner::lists::limit_row;
 use mesh::inner::lists::paired_row;
@@ -27,7 +30,10 @@ fn lengths_gate(
 ) -> Gate
     ensures { λ r. ⌜ r ≡ lengthsGate x y angles marks spreads triangles classes ⌝ }
 {
-    let limits = in_order(limit_row(x, 4096), limit_row(triangles, 24576));
+    let limits = in_order(
+        limit_row(x, MOST_CORNERS),
+        limit_row(triangles, MOST_HALF_EDGES),
+    );
     let edges = in_order(
         whole_row(triangles, 3),
         in_order(paired_row(classes, triangles), limits),
@@ -41,7 +47,7 @@ fn lengths_gate(
 
 // Rows 3 to 6, for lists that rows 1 and 2 let through.
 fn values_gate(x: &[f32], y: &[f32], triangles: &[u32], params: EdgeParams) -> Gate
-    requires { ⌜ (length (now y) ≡ length (now x)) × (length (now x) ≤ 4096) × (length (now triangles) ≤ 24576) ⌝ }
+    requires { ⌜ (length (now y) ≡ length (now x)) × (length (now x) ≤ mostCorners) × (length (now triangles) ≤ mostHalfEdges) ⌝ }
     ensures { λ r. ⌜ r ≡ valuesGate (now (x .entry)) (now (y .entry)) (now (triangles .entry)) params ⌝ }
 {
     let rule = params.spread;

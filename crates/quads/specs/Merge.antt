@@ -7,6 +7,7 @@ use Prim.Native.Nat.{ℕ, zero, suc, _+_, _/_, _%_, _≤_, _<_}
 use lib.Dec.{eqb, ltb}
 use lib.Ieee.{Float}
 use lib.ListN.{length, getD}
+use Rattle.mesh.specs.Lists.{mostCorners, mostHalfEdges}
 use Rattle.mesh.specs.HalfEdge.{triangleOf, noTwin}
 use Rattle.quads.specs.declared.Found.{Found}
 use Rattle.quads.specs.declared.Found.the-variants.{Nowhere, At}
@@ -37,7 +38,7 @@ pub record Settled (m : Mesh) : Type 0 where
   pub twins : length (m .twins) ≡ length (m .triangles)
   pub classes : length (m .classes) ≡ length (m .triangles)
   pub whole : length (m .triangles) % 3 ≡ 0
-  pub edges : length (m .triangles) ≤ 24576
+  pub edges : length (m .triangles) ≤ mostHalfEdges
   pub inside : (e : ℕ) → e < length (m .triangles) → (getD (m .twins) e 0 ≡ noTwin → ⊥) → getD (m .twins) e 0 < length (m .triangles)
 
 abbrev pub triangleCount : Mesh → ℕ
@@ -89,7 +90,7 @@ countTo m (suc t) = countTo m t + one (isFour (pairedAt m t))
 pub record Sound (i : Input) : Type 0 where
   pub mesh : Settled (i .mesh)
   pub standing : Standing (i .xs) (i .ys)
-  pub corners : length (i .xs) ≤ 4096
+  pub corners : length (i .xs) ≤ mostCorners
   pub named : (e : ℕ) → e < length (i .mesh .triangles) → getD (i .mesh .triangles) e 0 < length (i .xs)
   pub differ : (t : ℕ) → t < triangleCount (i .mesh) → namesTwice 3 (i .mesh .triangles) t ≡ false
   pub back : (e : ℕ) → e < length (i .mesh .triangles) → twinOffends (i .mesh .triangles) (i .mesh .twins) e ≡ false

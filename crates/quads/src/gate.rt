@@ -2,10 +2,13 @@
 ghost use mathlib.Core.Path.{_≡_};
 ghost use Prim.Native.Nat.{_%_, _≤_};
 ghost use lib.ListN.{length};
+ghost use Rattle.mesh.specs.Lists.{mostCorners, mostHalfEdges};
 ghost use Rattle.quads.specs.Call.{lengthsGate, valuesGate, gateOf};
 use mesh::inner::cells::classes_row;
 use mesh::inner::cells::corners_row;
 use mesh::inner::cells::twice_row;
+use mesh::inner::lists::MOST_CORNERS;
+use mesh::inner::lists::MOST_HALF_EDGES;
 use mesh::inner::lists::limit_row;
 use mesh::inner::lists::paired_row;
 use mesh::inner::lists::whole_row;
@@ -18,7 +21,10 @@ use refusal::inner::in_order;
 fn lengths_gate(x: usize, y: usize, triangles: usize, twins: usize, classes: usize) -> Gate
     ensures { λ r. ⌜ r ≡ lengthsGate x y triangles twins classes ⌝ }
 {
-    let limits = in_order(limit_row(x, 4096), limit_row(triangles, 24576));
+    let limits = in_order(
+        limit_row(x, MOST_CORNERS),
+        limit_row(triangles, MOST_HALF_EDGES),
+    );
     let edges = in_order(
         paired_row(twins, triangles),
         in_order(paired_row(classes, triangles), limits),
@@ -28,7 +34,7 @@ fn lengths_gate(x: usize, y: usize, triangles: usize, twins: usize, classes: usi
 
 // Rows 4 to 7, for lists that rows 1 and 2 let through.
 fn values_gate(x: &[f32], y: &[f32], triangles: &[u32], twins: &[u32], classes: &[u32]) -> Gate
-    requires { ⌜ (length (now y) ≡ length (now x)) × (length (now x) ≤ 4096) × (length (now triangles) ≤ 24576) × (length (now triangles) % 3 ≡ 0) × (length (now twins) ≡ length (now triangles)) × (length (now classes) ≡ length (now triangles)) ⌝ }
+    requires { ⌜ (length (now y) ≡ length (now x)) × (length (now x) ≤ mostCorners) × (length (now triangles) ≤ mostHalfEdges) × (length (now triangles) % 3 ≡ 0) × (length (now twins) ≡ length (now triangles)) × (length (now classes) ≡ length (now triangles)) ⌝ }
     ensures { λ r. ⌜ r ≡ valuesGate (record { xs = now (x .entry); ys = now (y .entry); mesh = record { triangles = now (triangles .entry); twins = now (twins .entry); classes = now (classes .entry) } }) ⌝ }
 {
     let edges = in_order(twice_row(triangles, 3), twins_row(triangles, twins));

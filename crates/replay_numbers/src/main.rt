@@ -4,18 +4,23 @@ use measure::Distance;
 use measure::Measured;
 use measure::inner::float_of;
 use measure::inner::word_of;
+use vectors::hex;
+use vectors::refusal_line;
 use vectors::word_at;
-use vectors::write_refusal;
 
 fn write_number(x: f32) {
-    vectors::write_word(word_of(x));
+    let digits = hex(word_of(x));
+    io::write_all(1, &digits);
     io::write_all(1, b"\n");
 }
 
 fn write_measured(answer: Measured) {
     match answer {
         Measured::Known(x) => write_number(x),
-        Measured::Refused(why) => write_refusal(why),
+        Measured::Refused(why) => {
+            let line = refusal_line(why);
+            io::write_all(1, &line);
+        }
     }
 }
 
@@ -77,7 +82,7 @@ fn file(name: &[u8]) {
     }
     let first = name[0];
     let mut text = io::large_buffer();
-    let n = vectors::load(name, &mut text);
+    let n = vectors::inner::load(name, &mut text);
     replay(first, &text[..n]);
 }
 

@@ -3,12 +3,14 @@ ghost use Prim.Native.Nat.{_≤_};
 ghost use lib.ListN.{length};
 ghost use Rattle.replay_stages.specs.Front.{Onward};
 use crate::list::after;
+use crate::runs::write_refusal;
 use axis::AxisCache;
 use axis::Cached;
 use axis::Spread;
 use axis::SpreadRule;
 use measure::inner::float_of;
 use measure::inner::word_of;
+use vectors::hex;
 use vectors::word_at;
 
 // The spread whose mark stands at `at`.
@@ -31,9 +33,11 @@ fn write_mark(mark: bool) {
 
 fn write_cache(cache: AxisCache) {
     io::write_all(1, b"cache ");
-    vectors::write_word(word_of(cache.angle0));
+    let angle0 = hex(word_of(cache.angle0));
+    let angle1 = hex(word_of(cache.angle1));
+    io::write_all(1, &angle0);
     io::write_all(1, b" ");
-    vectors::write_word(word_of(cache.angle1));
+    io::write_all(1, &angle1);
     write_mark(cache.informative0);
     write_mark(cache.informative1);
     io::write_all(1, b"\n");
@@ -57,7 +61,7 @@ pub(crate) fn replay(text: &[u8], at: usize) -> usize
     );
     match answer {
         Cached::Known(cache) => write_cache(cache),
-        Cached::Refused(why) => vectors::write_refusal(why),
+        Cached::Refused(why) => write_refusal(why),
     }
     after(text, at, 7)
 }

@@ -5,6 +5,7 @@ ghost use Rattle.replay_stages.specs.Front.{Onward};
 use crate::list::after;
 use crate::list::fill;
 use crate::list::fill_floats;
+use crate::runs::write_refusal;
 use crate::runs::write_runs;
 use axis::SpreadRule;
 use classify::Classified;
@@ -17,7 +18,7 @@ fn write_answer(answer: Classified) {
         Classified::Done => {
             io::write_all(1, b"done\n");
         }
-        Classified::Refused(why) => vectors::write_refusal(why),
+        Classified::Refused(why) => write_refusal(why),
     }
 }
 

@@ -41,7 +41,7 @@ fn argument(i: usize) {
     let mut name = io::buffer();
     let length = os::arg(i, &mut name);
     let mut text = io::large_buffer();
-    let n = vectors::load(&name[..length], &mut text);
+    let n = vectors::inner::load(&name[..length], &mut text);
     cases(&text[..n]);
 }
 

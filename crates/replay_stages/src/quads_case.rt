@@ -4,6 +4,7 @@ ghost use lib.ListN.{length};
 ghost use Rattle.replay_stages.specs.Front.{Onward};
 use crate::list::fill;
 use crate::list::fill_floats;
+use crate::runs::write_refusal;
 use crate::runs::write_runs;
 use quads::Merged;
 
@@ -14,7 +15,7 @@ fn write_answer(answer: Merged) {
             io::print_decimal(1, count as u64);
             io::write_all(1, b"\n");
         }
-        Merged::Refused(why) => vectors::write_refusal(why),
+        Merged::Refused(why) => write_refusal(why),
     }
 }
 

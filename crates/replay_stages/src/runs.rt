@@ -1,6 +1,12 @@
-// A list as runs: the length of each maximal run of equal words, and the word.
+// Answers as lines: a refusal, and a list as runs: the length of each maximal run of equal words, and the word.
 ghost use Prim.Native.Nat.{_<_, _≤_};
 ghost use lib.ListN.{length};
+use refusal::Refusal;
+
+pub(crate) fn write_refusal(why: Refusal) {
+    let line = vectors::refusal_line(why);
+    io::write_all(1, &line);
+}
 
 // Where the run that begins at `from` ends.
 fn run_end(list: &[u32], from: usize) -> usize

@@ -1,9 +1,11 @@
--- Words as text: eight upper-case hex digits, the highest first.
+-- Words as text: eight upper-case hex digits, the highest first; and the line that tells a refusal.
 use mathlib.Core.Bool.{cond}
-use mathlib.Core.List.{List, [], _∷_}
+use mathlib.Core.List.{List, [], _∷_, _++_}
 use Prim.Native.Nat.{ℕ, _+_, _*_, _-_, _/_, _%_}
 use lib.Dec.{leb, ltb}
 use lib.ListN.{length, getD}
+use Rattle.refusal.specs.declared.Refusal.{Refusal}
+use Rattle.refusal.specs.Table.{numberOf, placeOf}
 
 -- the value of a digit; any other byte counts as 0
 unfoldable pub valueOf : ℕ → ℕ
@@ -28,3 +30,8 @@ hexOf word =
     digitOf (word / 0x10000000 % 16) ∷ digitOf (word / 0x1000000 % 16) ∷ digitOf (word / 0x100000 % 16)
     ∷ digitOf (word / 0x10000 % 16) ∷ digitOf (word / 0x1000 % 16) ∷ digitOf (word / 0x100 % 16)
     ∷ digitOf (word / 0x10 % 16) ∷ digitOf (word % 16) ∷ []
+
+-- "refused", the row and the place
+unfoldable pub refusalLine : Refusal → List ℕ
+refusalLine why =
+    114 ∷ 101 ∷ 102 ∷ 117 ∷ 115 ∷ 101 ∷ 100 ∷ 32 ∷ (hexOf (numberOf why) ++ (32 ∷ (hexOf (placeOf why) ++ (10 ∷ []))))

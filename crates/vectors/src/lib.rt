@@ -1,11 +1,12 @@
-// What the programs that replay outside vectors share: words as eight upper-case hex digits, and a file of data/ with its heading.
-// `write_word`, `write_refusal` and the heading of `load` go to standard output, of which no contract can speak.
+// What the programs that replay outside vectors share: words as eight upper-case hex digits, and the line that tells a refusal.
+// `inner` reads their files.
 ghost use mathlib.Core.Path.{_≡_};
 ghost use Prim.Native.Nat.{_+_, _<_, _≤_};
 ghost use lib.ListN.{length};
-ghost use Rattle.io.specs.Counts.{Counts};
-ghost use Rattle.vectors.specs.Hex.{valueOf, fourAt, wordAt, digitOf, hexOf};
+ghost use Rattle.vectors.specs.Hex.{valueOf, fourAt, wordAt, digitOf, hexOf, refusalLine};
 use refusal::Refusal;
+
+pub mod inner;
 
 // The value of a hex digit; any other byte counts as 0.
 fn value(digit: u8) -> u32
@@ -74,33 +75,38 @@ pub fn hex(word: u32) -> [u8; 8]
     ]
 }
 
-pub fn write_word(word: u32) {
-    let digits = hex(word);
-    io::write_all(1, &digits);
-}
-
-// The line of a call that refused: its row and its place.
-pub fn write_refusal(why: Refusal) {
-    io::write_all(1, b"refused ");
-    io::print_decimal(1, refusal::number(why) as u64);
-    io::write_all(1, b" ");
-    io::print_decimal(1, refusal::place(why) as u64);
-    io::write_all(1, b"\n");
-}
-
-// Writes a file's heading and reads the file to the start of text; answers how many bytes that is, 0 where it does not open.
-pub fn load(name: &[u8], text: &mut [u8]) -> usize
-    ensures { λ r. ⌜ Counts r (now (text .exit)) ⌝ }
+// The line that tells a refusal: its row and its place, each as eight digits.
+pub fn refusal_line(why: Refusal) -> [u8; 26]
+    ensures { λ r. ⌜ (r ≡ refusalLine why) × (26 ≡ length r) ⌝ }
 {
-    io::write_all(1, b"# ");
-    io::write_all(1, name);
-    io::write_all(1, b"\n");
-    let fd = os::open_read(name);
-    if fd < 0 {
-        os::fail(name);
-        return 0;
-    }
-    let n = io::read_full(fd, text);
-    libc::close(fd);
-    n
+    let row = hex(refusal::number(why));
+    let place = hex(refusal::place(why));
+    [
+        b'r',
+        b'e',
+        b'f',
+        b'u',
+        b's',
+        b'e',
+        b'd',
+        b' ',
+        row[0],
+        row[1],
+        row[2],
+        row[3],
+        row[4],
+        row[5],
+        row[6],
+        row[7],
+        b' ',
+        place[0],
+        place[1],
+        place[2],
+        place[3],
+        place[4],
+        place[5],
+        place[6],
+        place[7],
+        b'\n',
+    ]
 }

@@ -5,6 +5,10 @@ ghost use Rattle.mesh.specs.Lists.{pairedRow, doubledRow, wholeRow, limi
 use refusal::Gate;
 use refusal::Refusal;
 
+pub const MOST_CORNERS: usize = 4096;
+
+pub const MOST_HALF_EDGES: usize = 24576;
+
 pub fn paired_row(a: usize, b: usize) -> Gate
     ensures { λ r. ⌜ r ≡ pairedRow a b ⌝ }
 {

@@ -32,7 +32,7 @@ fn singles(name: &'static str, list: &[u32], answer: impl Fn(f32) -> String) -> 
 }
 
 fn or_refused(answer: Option<f32>) -> String {
-    answer.map_or("refused 4 0\n".to_string(), word)
+    answer.map_or("refused 00000004 00000000\n".to_string(), word)
 }
 
 fn or_none(answer: Option<f32>) -> String {

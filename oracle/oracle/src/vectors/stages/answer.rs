@@ -47,7 +47,7 @@ fn word(x: f32) -> u32 {
 }
 
 fn refused(refusal: &Refusal) -> String {
-    format!("refused {} {}", refusal.row, refusal.place)
+    format!("refused {:08X} {:08X}", refusal.row, refusal.place)
 }
 
 /// Each longest run of equal words as its length and the word.
