@@ -20,5 +20,5 @@ pub mod RootRule
 pub mod RootComputed
 pub mod Value
 pub mod Length
-pub mod Examples
+pub mod LengthWords
 pub mod Worked

@@ -1,4 +1,5 @@
--- From patterns to floats: a pattern below an infinity's is a float of that many units, and a float above 0 has such a pattern. Assumes nothing.
+-- From patterns to floats: a pattern below an infinity's is a float of that many units, and a finite float whose sign bit is clear has such a
+-- pattern. Assumes nothing.
 use mathlib.Core.Path.{_≡_, refl, sym, ap, _∙_, subst}
 use mathlib.Core.Bool.{Bool, true, false, cond, not}
 use Prim.Native.Nat.{ℕ, zero, suc, _+_, _-_, _*_, _/_, _%_, _^_, _<_}
@@ -11,7 +12,7 @@ use lib.Ieee.{Float, nan, inf, fin, binary32, odd, ofFields, ofBits, toBits, isN
 use lib.Ieee.Bits.{ofBits-toBits, nanBits-is}
 use lib.Ieee.Exact.{HasValue, odd-sign}
 use lib.Ieee.Fits.{down-pos}
-use lib.Ieee.Positive.{positive}
+use lib.Ieee.Positive.{positive, positive-finite}
 use lib.Ieee.Scale.{finite}
 use Rattle.measure.specs.Float.{signOf, absOf}
 use Rattle.measure.specs.Pattern.{units}
@@ -75,7 +76,7 @@ bits-no-nan b h = value-no-nan (ofBits binary32 b) false (units b) (2 ^ 149) (bi
 pub bits-fine : (b : ℕ) → b < 2139095040 → T (not (nanBits binary32 b))
 bits-fine b h = subst (λ (t : Bool). T (not t)) (sym (nanBits-is binary32 b)) (bits-no-nan b h)
 
--- ---- the pattern of a float above 0 and finite
+-- ---- the pattern of a float that is finite, its sign bit clear, and of one above 0
 
 pub positive-no-nan : (x : Float) → T (positive x) → T (not (isNan x))
 unfolding isNan
@@ -83,17 +84,17 @@ positive-no-nan nan p = absurd p
 positive-no-nan (inf t) p = tt
 positive-no-nan (fin t m e) p = tt
 
-positive-sign : (x : Float) → T (positive x) → signOf x ≡ false
+pub positive-sign : (x : Float) → T (positive x) → signOf x ≡ false
 positive-sign nan p = absurd p
 positive-sign (inf t) p = absurd p
 positive-sign (fin true m e) p = absurd p
 positive-sign (fin false m e) p = refl
 
-full-field : (t : ℕ) → T (positive (ofFields binary32 false 255 t)) → ⊥
+full-field : (t : ℕ) → T (finite (ofFields binary32 false 255 t)) → ⊥
 unfolding ofFields
 full-field t = go (eqb t 0)
   where
-    go : (c : Bool) → T (positive (cond c (inf false) nan)) → ⊥
+    go : (c : Bool) → T (finite (cond c (inf false) nan)) → ⊥
     go true p = p
     go false p = p
 
@@ -101,26 +102,12 @@ zero-bits : T (positive (ofBits binary32 0)) → ⊥
 unfolding ofBits
 zero-bits p = p
 
-pub positive-bits : (x : Float) → T (fits binary32 x) → T (positive x) → (0 < toBits binary32 x) × (toBits binary32 x < 2139095040)
-positive-bits x f p = (least (ltb 0 b) refl, most (ltb b 2139095040) refl)
+-- a finite float whose sign bit is clear has a pattern below an infinity's
+pub clear-bits : (x : Float) → T (fits binary32 x) → T (finite x) → signOf x ≡ false → toBits binary32 x < 2139095040
+clear-bits x f h s = most (ltb (toBits binary32 x) 2139095040) refl
   where
-    b : ℕ
-    b = toBits binary32 x
-
-    back : ofBits binary32 (toBits binary32 x) ≡ x
-    back = ofBits-toBits binary32 x f
-
-    p' : T (positive (ofBits binary32 (toBits binary32 x)))
-    p' = subst (λ (y : Float). T (positive y)) (sym (ofBits-toBits binary32 x f)) p
-
     half : toBits binary32 x < 2147483648
-    half = leb-false 2147483648 (toBits binary32 x) (sign-of-bits x f ∙ positive-sign x p)
-
-    least : (t : Bool) → ltb 0 (toBits binary32 x) ≡ t → 0 < toBits binary32 x
-    least true e = ltb-true 0 (toBits binary32 x) e
-    least false e =
-        let z : toBits binary32 x ≡ 0 = omega (arith, ltb-false 0 (toBits binary32 x) e) in
-        absurd (zero-bits (subst (λ (n : ℕ). T (positive (ofBits binary32 n))) z p'))
+    half = leb-false 2147483648 (toBits binary32 x) (sign-of-bits x f ∙ s)
 
     most : (t : Bool) → ltb (toBits binary32 x) 2139095040 ≡ t → toBits binary32 x < 2139095040
     most true e = ltb-true (toBits binary32 x) 2139095040 e
@@ -128,11 +115,27 @@ positive-bits x f p = (least (ltb 0 b) refl, most (ltb b 2139095040) refl)
         let n = toBits binary32 x in
         let l = ltb-false n 2139095040 e in
         let z : n / 8388608 ≡ 255 = omega (arith, half) in
-        absurd (full-field (n % 8388608) (subst (λ (k : ℕ). T (positive (ofFields binary32 false k (n % 8388608)))) z (subst (λ (y : Float). T (positive y)) (fields n half) p')))
+        let own : T (finite (ofBits binary32 n)) = subst (λ (y : Float). T (finite y)) (sym (ofBits-toBits binary32 x f)) h in
+        absurd (full-field (n % 8388608) (subst (λ (k : ℕ). T (finite (ofFields binary32 false k (n % 8388608)))) z (subst (λ (y : Float). T (finite y)) (fields n half) own)))
+
+pub positive-bits : (x : Float) → T (fits binary32 x) → T (positive x) → (0 < toBits binary32 x) × (toBits binary32 x < 2139095040)
+positive-bits x f p = (least (ltb 0 (toBits binary32 x)) refl, clear-bits x f (positive-finite x p) (positive-sign x p))
+  where
+    own : T (positive (ofBits binary32 (toBits binary32 x)))
+    own = subst (λ (y : Float). T (positive y)) (sym (ofBits-toBits binary32 x f)) p
+
+    least : (t : Bool) → ltb 0 (toBits binary32 x) ≡ t → 0 < toBits binary32 x
+    least true e = ltb-true 0 (toBits binary32 x) e
+    least false e =
+        let z : toBits binary32 x ≡ 0 = omega (arith, ltb-false 0 (toBits binary32 x) e) in
+        absurd (zero-bits (subst (λ (n : ℕ). T (positive (ofBits binary32 n))) z own))
 
 -- a float's units are its pattern's
+pub clear-units : (w : Float) → T (fits binary32 w) → T (finite w) → signOf w ≡ false → unitsOf w ≡ units (toBits binary32 w)
+clear-units w f h s = ap unitsOf (sym (ofBits-toBits binary32 w f)) ∙ bits-units (toBits binary32 w) (clear-bits w f h s)
+
 pub own-units : (w : Float) → T (fits binary32 w) → T (positive w) → unitsOf w ≡ units (toBits binary32 w)
-own-units w f p = ap unitsOf (sym (ofBits-toBits binary32 w f)) ∙ bits-units (toBits binary32 w) (positive-bits w f p .1)
+own-units w f p = clear-units w f (positive-finite w p) (positive-sign w p)
 
 -- ---- nothing is cut off: a finite float's magnitude is exactly its units
 

@@ -7,7 +7,7 @@ use lib.Ieee.{Float, nan, inf, fin, binary32, odd, ofFields, ofBits, toBits, isN
 use lib.Ieee.Bits.{ofBits-toBits}
 use Rattle.measure.specs.Float.{signOf, absOf}
 
-odd-sign : (d : ℕ) (s : Bool) (q k l : ℕ) → signOf (odd d s q k l) ≡ s
+pub odd-sign : (d : ℕ) (s : Bool) (q k l : ℕ) → signOf (odd d s q k l) ≡ s
 unfolding odd
 odd-sign d s zero k l = refl
 odd-sign d s (suc q) k l = refl

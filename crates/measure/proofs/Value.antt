@@ -43,7 +43,7 @@ module _ (a d u w p : ℕ) (pw : 0 < w) (pp : 0 < p) (h : a * d * p ≡ u * w) w
 
 -- ---- a comparison of numbers decides the same comparison of their units
 
-same-lt : (a b u v : ℕ) → (b ≤ a → v ≤ u) → (v ≤ u → b ≤ a) → ltb a b ≡ ltb u v
+pub same-lt : (a b u v : ℕ) → (b ≤ a → v ≤ u) → (v ≤ u → b ≤ a) → ltb a b ≡ ltb u v
 same-lt a b u v f g = go (ltb u v) refl
   where
     go : (t : Bool) → ltb u v ≡ t → ltb a b ≡ ltb u v
@@ -55,7 +55,7 @@ same-lt a b u v f g = go (ltb u v) refl
 both-below : (K u v : ℕ) → u ≤ K → v ≤ K → ltb (K - u) (K - v) ≡ ltb v u
 both-below K u v hu hv = same-lt (K - u) (K - v) v u (λ h. omega arith) (λ h. omega arith)
 
-both-above : (K u v : ℕ) → ltb (K + u) (K + v) ≡ ltb u v
+pub both-above : (K u v : ℕ) → ltb (K + u) (K + v) ≡ ltb u v
 both-above K u v = same-lt (K + u) (K + v) u v (λ h. omega arith) (λ h. omega arith)
 
 across : (K u v : ℕ) → u ≤ K → ltb (K - u) (K + v) ≡ ltb 0 (u + v)

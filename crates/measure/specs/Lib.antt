@@ -8,5 +8,4 @@ pub mod Pattern
 pub mod RootComputed
 pub mod Value
 pub mod Length
-pub mod Examples
 pub mod Worked

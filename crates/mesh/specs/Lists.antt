@@ -21,9 +21,12 @@ wholeRow n size = refuseIf (not (eqb (n % size) 0)) Unpaired
 abbrev pub limitRow : ℕ → ℕ → Gate
 limitRow count most = refuseIf (ltb most count) OverLimit
 
--- at most 4,096 corners and 24,576 half-edges
+-- at most 4,096 corners, 24,576 half-edges and 4,096 quads
 abbrev pub mostCorners : ℕ
 mostCorners = 4096
 
 abbrev pub mostHalfEdges : ℕ
 mostHalfEdges = 24576
+
+abbrev pub mostQuads : ℕ
+mostQuads = 4096

@@ -14,9 +14,9 @@ use lib.ListN.{length, getD}
 use Rattle.words.specs.Sorting.{Sorting}
 use Rattle.words.proofs.Sorting.{sorting}
 use Rattle.mesh.specs.HalfEdge.{triangleOf}
-use Rattle.mesh.specs.Cells.{some, namesTwice}
+use Rattle.mesh.specs.Cells.{namesTwice}
 use Rattle.mesh.proofs.Open.{twin-sound}
-use Rattle.mesh.proofs.Some.{some-hit}
+use Rattle.mesh.proofs.Differ.{corners-differ}
 use Rattle.quads.specs.declared.Found.the-variants.{At}
 use Rattle.quads.specs.declared.Pairing.{Pairing}
 use Rattle.quads.specs.declared.Pairing.the-variants.{Alone, Four}
@@ -93,13 +93,7 @@ each-new q new j k hj hk e = go (decLt j k) (decLt k j)
 
 -- a triangle that names no corner twice has three different ones
 triangle-differs : (triangles : List ℕ) (t j k : ℕ) → namesTwice 3 triangles t ≡ false → j < k → k < 3 → getD triangles (3 * t + j) 0 ≡ getD triangles (3 * t + k) 0 → ⊥
-unfolding namesTwice
-triangle-differs triangles t j k clear l h e =
-    let swap : 3 * t ≡ t * 3 = omega arith in
-    let same = eq-eqb (getD triangles (t * 3 + j) 0) (getD triangles (t * 3 + k) 0) (rw swap at e) in
-    let before = some-hit k j (λ (j : ℕ). eqb (getD triangles (t * 3 + j) 0) (getD triangles (t * 3 + k) 0)) l same in
-    let twice = some-hit 3 k (λ (i : ℕ). some i (λ (j : ℕ). eqb (getD triangles (t * 3 + j) 0) (getD triangles (t * 3 + i) 0))) h before in
-    false≢true (sym clear ∙ twice)
+triangle-differs triangles t j k clear l h e = let swap : 3 * t ≡ t * 3 = omega arith in corners-differ 3 triangles t j k clear l h (rw swap at e)
 
 in-head : (x : ℕ) (ys : List ℕ) → isIn x (x ∷ ys) ≡ true
 unfolding isIn

@@ -55,7 +55,8 @@ fn quad_of(
     }
 }
 
-fn store(quads: &mut [u32], at: usize, q: Quad)
+// Four words of a list from `at` on. A caller has room for the record.
+pub fn store(quads: &mut [u32], at: usize, q: Quad)
     requires { ⌜ at + 3 < length (now quads) ⌝ }
     ensures { λ _. ⌜ now (quads .exit) ≡ take at (now (quads .entry)) ++ ((q .a ∷ q .b ∷ q .c ∷ q .d ∷ []) ++ drop (at + 4) (now (quads .entry))) ⌝ }
 {

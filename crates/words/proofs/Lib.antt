@@ -2,3 +2,8 @@ pub mod Listing
 pub mod Front
 pub mod Rank
 pub mod Sorting
+pub mod Cuts
+pub mod Regions
+pub mod Digits
+pub mod Moving
+pub mod Composing

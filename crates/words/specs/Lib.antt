@@ -1,2 +1,5 @@
 pub mod Listing
 pub mod Sorting
+pub mod Regions
+pub mod Order
+pub mod Digits

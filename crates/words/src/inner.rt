@@ -1,9 +1,23 @@
-// Words as numbers of other widths.
+// Words as numbers of other widths, clearing a list of words, and ordering records in one.
 ghost use mathlib.Core.Path.{_≡_};
+ghost use lib.ListN.{length, replicate};
+
+pub mod order;
 
 // A word of a list as a place in one.
 pub fn wide(word: u32) -> usize
     ensures { λ r. ⌜ r ≡ word ⌝ }
 {
     word as usize
+}
+
+// Every word is 0, and there are as many as before.
+pub fn fill_zero(work: &mut [u32])
+    ensures { λ _. ⌜ now (work .exit) ≡ replicate (length (now (work .entry))) 0 ⌝ }
+{
+    let mut i = 0;
+    while i < work.len() {
+        work[i] = 0;
+        i += 1;
+    }
 }

@@ -9,6 +9,8 @@ pub const MOST_CORNERS: usize = 4096;
 
 pub const MOST_HALF_EDGES: usize = 24576;
 
+pub const MOST_QUADS: usize = 4096;
+
 pub fn paired_row(a: usize, b: usize) -> Gate
     ensures { λ r. ⌜ r ≡ pairedRow a b ⌝ }
 {

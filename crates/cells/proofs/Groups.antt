@@ -1,0 +1,35 @@
+-- What group numbers say: two numbers below n are linked exactly when theirs are equal, a group's number is the lowest that is linked,
+-- and a relation has one answer. Assumes nothing.
+use mathlib.Core.Path.{_≡_}
+use Prim.Native.Nat.{ℕ, _≤_, _<_}
+use native.Mathlib.Omega.{arith}
+use native.Mathlib.Decide.{decLt}
+use native.Mathlib.Nat.{le-antisymm}
+use Rattle.cells.specs.Groups.{Linked, Groups}
+use Rattle.cells.specs.Groups.Linked.{same, on}
+use Rattle.cells.proofs.Links.{joined, turned, fold, kept}
+
+pub linked-equal : {E : ℕ → ℕ → Type 0} {n x y : ℕ} {g : ℕ → ℕ} → Groups E n g → Linked E x y → g x ≡ g y
+linked-equal {E} {n} {x} {y} {g} G l = kept g (G .together) l
+
+pub equal-linked : {E : ℕ → ℕ → Type 0} {n x y : ℕ} {g : ℕ → ℕ} → Groups E n g → x < n → y < n → g x ≡ g y → Linked E x y
+equal-linked {E} {n} {x} {y} {g} G hx hy e = joined (G .linked x hx) (rw e (turned (G .linked y hy)))
+
+-- y need not be below n: one that is not is higher than every group's number
+pub lowest-linked : {E : ℕ → ℕ → Type 0} {n x y : ℕ} {g : ℕ → ℕ} → Groups E n g → x < n → Linked E x y → g x ≤ y
+lowest-linked {E} {n} {x} {y} {g} G hx l = go (decLt y n)
+  where
+    go : Dec (y < n) → g x ≤ y
+    go (yes hy) = rw (linked-equal G l) (G .lowest y hy)
+    go (no far) = omega (arith, far, G .lowest x hx)
+
+pub one-answer : {E : ℕ → ℕ → Type 0} {n x : ℕ} {g h : ℕ → ℕ} → Groups E n g → Groups E n h → x < n → g x ≡ h x
+one-answer {E} {n} {x} {g} {h} G H hx = le-antisymm (lowest-linked G hx (H .linked x hx)) (lowest-linked H hx (G .linked x hx))
+
+-- relations of the same pairs have the same groups
+pub same-groups : {E F : ℕ → ℕ → Type 0} {n : ℕ} {g : ℕ → ℕ} → ((x y : ℕ) → E x y → F x y) → ((x y : ℕ) → F x y → E x y) → Groups E n g → Groups F n g
+same-groups {E} {F} {n} {g} there back-again G = record {
+  linked = λ x h. fold (λ u v e. on same (there u v e)) (G .linked x h);
+  together = λ x y e. G .together x y (back-again x y e);
+  lowest = G .lowest;
+}

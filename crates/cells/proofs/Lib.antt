@@ -1,0 +1,11 @@
+pub mod Links
+pub mod Parents
+pub mod Classes
+pub mod Groups
+pub mod Places
+pub mod Keys
+pub mod Tables
+pub mod InOrder
+pub mod Part
+pub mod Near
+pub mod Touching

@@ -1,0 +1,46 @@
+-- The workspace of the groups of n cells: marks, then groups, then the ordered side table and room for its ordering.
+use mathlib.Core.Path.{_≡_}
+use mathlib.Core.Bool.{Bool}
+use mathlib.Core.List.{List}
+use Prim.Native.Nat.{ℕ, _+_, _*_, _≤_, _<_}
+use lib.Dec.{eqb}
+use lib.ListN.{length, getD}
+use Rattle.cells.specs.Cells.{cell, Neighbours}
+use Rattle.cells.specs.Groups.{Groups}
+
+-- a cell takes part where its mark is 0
+abbrev pub unmarked : List ℕ → ℕ → Bool
+unmarked work q = eqb (getD work q 0) 0
+
+-- where the parts stand
+abbrev pub groupsAt : ℕ → ℕ
+groupsAt n = n
+
+abbrev pub tableAt : ℕ → ℕ
+tableAt n = 2 * n
+
+abbrev pub spareAt : ℕ → ℕ → ℕ
+spareAt size n = 2 * n + 2 * (size * n)
+
+abbrev pub groupsEnd : ℕ → ℕ → ℕ
+groupsEnd size n = 2 * n + 4 * (size * n)
+
+-- every corner is one of 4,096
+abbrev pub Corners : List ℕ → Type 0
+Corners cells = (k : ℕ) → k < length cells → getD cells k 0 < 4096
+
+-- what the groups ask of a list of n cells: whole, of corners below 4,096, no side from a corner to itself
+pub record Sound (size : ℕ) (cells : List ℕ) (n : ℕ) : Type 0 where
+  pub least : 3 ≤ size
+  pub most : size ≤ 4
+  pub whole : length cells ≡ size * n
+  pub few : n ≤ 8192
+  pub corners : Corners cells
+  pub proper : (q i : ℕ) → q < n → i < size → cell size cells q i ≡ cell size cells q (i + 1) → ⊥
+
+-- the groups of the unmarked cells stand in their place; the marks, and all past the table, are as they were
+pub record Grouped (size : ℕ) (cells : List ℕ) (n : ℕ) (xs ys : List ℕ) : Type 0 where
+  pub len : length ys ≡ length xs
+  pub marks : (k : ℕ) → k < n → getD ys k 0 ≡ getD xs k 0
+  pub groups : Groups (Neighbours size cells (unmarked xs)) n (λ (q : ℕ). getD ys (groupsAt n + q) 0)
+  pub rest : (k : ℕ) → groupsEnd size n ≤ k → getD ys k 0 ≡ getD xs k 0

@@ -1,0 +1,4 @@
+// Groups of cells: which are reached from which across shared sides.
+mod forest;
+pub mod inner;
+mod sides;

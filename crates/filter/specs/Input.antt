@@ -1,0 +1,31 @@
+-- What the filters read, and the length of a side: the root of dx·dx + dy·dy between its two corners.
+use mathlib.Core.List.{List}
+use Prim.Native.Nat.{ℕ, _+_, _/_}
+use lib.Ieee as Ieee
+use lib.Ieee.{Float, nan, binary32}
+use lib.ListN.{length, getD}
+use Rattle.measure.specs.Length.{lengthOf}
+use Rattle.cells.specs.Cells.{cell}
+use Rattle.filter.specs.declared.FilterParams.{FilterParams}
+
+pub record Input : Type 0 where
+  pub xs : List Float
+  pub ys : List Float
+  pub quads : List ℕ
+  pub params : FilterParams
+
+abbrev pub quadCount : Input → ℕ
+quadCount i = length (i .quads) / 4
+
+-- corner k of quad q, counted round
+abbrev pub corner : Input → ℕ → ℕ → ℕ
+corner i q k = cell 4 (i .quads) q k
+
+-- from corner a to corner b
+unfoldable pub lengthBetween : List Float → List Float → ℕ → ℕ → Float
+lengthBetween xs ys a b =
+    lengthOf (Ieee.sub binary32 (getD xs b nan) (getD xs a nan)) (Ieee.sub binary32 (getD ys b nan) (getD ys a nan))
+
+-- side k of quad q
+unfoldable pub sideLength : Input → ℕ → ℕ → Float
+sideLength i q k = lengthBetween (i .xs) (i .ys) (corner i q k) (corner i q (k + 1))

@@ -1,0 +1,12 @@
+-- Where the filters keep what in the workspace, for n quads: marks, groups and the ordered tables as in cells, then the lengths of all
+-- sides by their bits, the medians by group, and the incidence of each corner.
+use Prim.Native.Nat.{ℕ, _*_}
+
+abbrev pub lengthsAt : ℕ → ℕ
+lengthsAt n = 18 * n
+
+abbrev pub mediansAt : ℕ → ℕ
+mediansAt n = 22 * n
+
+abbrev pub incidenceAt : ℕ → ℕ
+incidenceAt n = 23 * n

@@ -1,0 +1,12 @@
+pub mod Input
+pub mod Topology
+pub mod Opposing
+pub mod Median
+pub mod Size
+pub mod Marks
+pub mod Call
+pub mod Layout
+pub mod Steps
+pub mod Examples
+pub mod Worked
+pub mod Kept

@@ -1,0 +1,163 @@
+// The third rule: quads of the wrong size in their group, by the median of the group's sides.
+ghost use mathlib.Core.Path.{_≡_};
+ghost use Prim.Native.Nat.{ℕ, _+_, _*_, _/_, _≤_, _<_};
+ghost use lib.ListN.{length, getD};
+ghost use Rattle.words.specs.Order.{wordOf};
+ghost use Rattle.words.specs.Regions.{Filled};
+ghost use Rattle.cells.specs.Table.{Sound, groupsAt, tableAt};
+ghost use Rattle.mesh.specs.Lists.{mostQuads};
+ghost use Rattle.filter.specs.Layout.{lengthsAt, mediansAt};
+ghost use Rattle.filter.specs.Size.{isSkipped, offSide, offSize};
+ghost use Rattle.filter.specs.Steps.{lengthIn, sizeMark, Recorded, Rising, Run, Centred, Weighed, Sized};
+use crate::FilterParams;
+use crate::lengths::LENGTHS;
+use crate::opposing::length_at;
+use cells::inner::groups;
+use measure::inner::float_of;
+use measure::inner::is_finite;
+use words::inner::order::order_in_groups;
+use words::inner::wide;
+
+// How many words stand before the medians, for each quad.
+const MEDIANS: usize = 22;
+
+// A record for every side: its length, and the group of its quad.
+fn write_records(work: &mut [u32], n: usize)
+    requires { ⌜ mediansAt n ≤ length (now work) ⌝ }
+    ensures { λ _. ⌜ Recorded n (now (work .entry)) (now (work .exit)) ⌝ }
+{
+    let mut e = 0;
+    while e < 4 * n {
+        work[2 * n + 2 * e] = work[LENGTHS * n + e];
+        work[2 * n + 2 * e + 1] = work[n + e / 4];
+        e += 1;
+    }
+}
+
+// Where the run of one group that begins at record s ends, of n quads' records in order.
+fn run_end(work: &[u32], n: usize, s: usize) -> usize
+    requires { ⌜ (s < 4 * n) × (10 * n ≤ length (now work)) ⌝ }
+    requires { ⌜ Rising n (now work) ⌝ }
+    requires { ⌜ ((k : ℕ) → k < s → wordOf (now work) (tableAt n) 1 k < wordOf (now work) (tableAt n) 1 s) ⌝ }
+    ensures { λ r. ⌜ Run (wordOf (now (work .entry)) (tableAt n) 1) (4 * n) s r ⌝ }
+{
+    let group = work[2 * n + 2 * s + 1];
+    let mut e = s + 1;
+    while e < 4 * n {
+        if work[2 * n + 2 * e + 1] != group {
+            return e;
+        }
+        e += 1;
+    }
+    e
+}
+
+// Each group's median: the middle one of its run of records.
+fn write_medians(work: &mut [u32], n: usize)
+    requires { ⌜ mediansAt n + n ≤ length (now work) ⌝ }
+    requires { ⌜ Rising n (now work) ⌝ }
+    ensures { λ _. ⌜ Centred n (4 * n) (now (work .entry)) (now (work .exit)) ⌝ }
+{
+    let mut s = 0;
+    while s < 4 * n {
+        let e = run_end(work, n, s);
+        let group = wide(work[2 * n + 2 * s + 1]);
+        work[MEDIANS * n + group] = work[2 * n + 2 * (s + (e - s) / 2)];
+        s = e;
+    }
+}
+
+// A side against its group's median.
+fn is_off_side(params: FilterParams, median: f32, side: f32) -> bool
+    ensures { λ r. ⌜ r ≡ offSide params median side ⌝ }
+{
+    if params.least > 0.0 {
+        if side < params.least * median {
+            return true;
+        }
+    }
+    if is_finite(params.greatest) {
+        return side > params.greatest * median;
+    }
+    false
+}
+
+// The four sides of quad q against a median.
+fn is_off_size(work: &[u32], n: usize, q: usize, params: FilterParams, median: f32) -> bool
+    requires { ⌜ (q < n) × (lengthsAt n + 4 * n ≤ length (now work)) ⌝ }
+    ensures { λ r. ⌜ r ≡ offSize params median (lengthIn (now (work .entry)) n q) ⌝ }
+{
+    if median == 0.0 {
+        return false;
+    }
+    let mut k = 0;
+    while k < 4 {
+        if is_off_side(params, median, length_at(work, n, q, k)) {
+            return true;
+        }
+        k += 1;
+    }
+    false
+}
+
+fn size_mark(work: &[u32], n: usize, q: usize, params: FilterParams) -> u32
+    requires { ⌜ (q < n) × (mediansAt n + n ≤ length (now work)) × (getD (now work) (groupsAt n + q) 0 < n) ⌝ }
+    ensures { λ r. ⌜ r ≡ sizeMark params (now (work .entry)) n q ⌝ }
+{
+    if work[q] != 0 {
+        return work[q];
+    }
+    let median = float_of(work[MEDIANS * n + wide(work[n + q])]);
+    if is_off_size(work, n, q, params, median) {
+        3
+    } else {
+        0
+    }
+}
+
+// The marks of all three rules.
+fn mark_sizes(work: &mut [u32], n: usize, params: FilterParams)
+    requires { ⌜ mediansAt n + n ≤ length (now work) ⌝ }
+    requires { ⌜ ((q : ℕ) → q < n → getD (now work) (groupsAt n + q) 0 < n) ⌝ }
+    ensures { λ _. ⌜ Filled (now (work .entry)) (now (work .exit)) 0 n n (sizeMark params (now (work .entry)) n) ⌝ }
+{
+    let mut q = 0;
+    while q < n {
+        work[q] = size_mark(work, n, q, params);
+        q += 1;
+    }
+}
+
+// Whether the rule is skipped.
+fn is_skipped(params: FilterParams) -> bool
+    ensures { λ r. ⌜ r ≡ isSkipped params ⌝ }
+{
+    if params.least > 0.0 {
+        return false;
+    }
+    !is_finite(params.greatest)
+}
+
+// The groups of the quads left, and the median of each group's sides.
+fn write_groups(quads: &[u32], work: &mut [u32], n: usize)
+    requires { ⌜ Sound 4 (now quads) n × (n ≤ mostQuads) × (mediansAt n + n ≤ length (now work)) ⌝ }
+    ensures { λ _. ⌜ Weighed (now (quads .entry)) n (now (work .entry)) (now (work .exit)) ⌝ }
+{
+    groups(quads, 4, n, work);
+    write_records(work, n);
+    order_in_groups(work, 2 * n, 10 * n, 4 * n);
+    write_medians(work, n);
+}
+
+// The third rule's marks beside those of the first two.
+pub(crate) fn mark_off_size(quads: &[u32], work: &mut [u32], params: FilterParams)
+    requires { ⌜ Sound 4 (now quads) (length (now quads) / 4) × (length (now quads) / 4 ≤ mostQuads) × (mediansAt (length (now quads) / 4) + length (now quads) / 4 ≤ length (now work)) ⌝ }
+    ensures { λ _. ⌜ Sized params (now (quads .entry)) (length (now (quads .entry)) / 4) (now (work .entry)) (now (work .exit)) ⌝ }
+{
+    if is_skipped(params) {
+        return;
+    }
+    let n = quads.len() / 4;
+    write_groups(quads, work, n);
+    mark_sizes(work, n, params);
+}

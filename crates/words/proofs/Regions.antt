@@ -1,0 +1,76 @@
+-- Laws of regions: a store in one keeps what is outside it and may be the next that it is to hold, and a part of a list that was lent
+-- and has come back changes that part alone. Assumes nothing.
+use mathlib.Core.Path.{_≡_, refl, sym, ap, _∙_}
+use mathlib.Core.List.{List, _++_}
+use Prim.Native.Nat.{ℕ, _+_, _-_, _≤_, _<_}
+use native.Mathlib.Decide.{ℕ-discrete, decLt}
+use native.Mathlib.Omega.{arith}
+use lib.ListN.{length, getD, set, take, drop, length-set, List·getD-append}
+use lib.Seq.{getD-set-same, getD-set-other, getD-take, getD-drop, getD-append-add, length-take-le}
+use borrow.Rule.Slice.PartMut.{putMid, mid-len, same-len-mid}
+use Rattle.words.specs.Regions.{Outside, Kept, Filled}
+
+-- ---- stores
+
+pub set-cases : (P : ℕ → Type 0) (l : List ℕ) (i v j : ℕ) → i < length l → (j ≡ i → P v) → ((j ≡ i → ⊥) → P (getD l j 0)) → P (getD (set l i v) j 0)
+set-cases P l i v j h a b = go (ℕ-discrete j i)
+  where
+    go : Dec (j ≡ i) → P (getD (set l i v) j 0)
+    go (yes e) = rw (e, getD-set-same) (a e)
+    go (no n) = rw getD-set-other (b n)
+
+pub kept-refl : (xs : List ℕ) (a m : ℕ) → Kept xs xs a m
+kept-refl xs a m = record { len = refl; rest = λ k o. refl }
+
+pub kept-trans : {xs ys zs : List ℕ} {a m : ℕ} → Kept xs ys a m → Kept ys zs a m → Kept xs zs a m
+kept-trans p q = record { len = q .len ∙ p .len; rest = λ k o. q .rest k o ∙ p .rest k o }
+
+pub kept-set : {xs ys : List ℕ} {a m : ℕ} → Kept xs ys a m → (p v : ℕ) → a ≤ p → p < a + m → Kept xs (set ys p v) a m
+kept-set {xs} {ys} {a} {m} q p v l h = record {
+  len = length-set ys p v ∙ q .len;
+  rest = λ k o. getD-set-other ys p k v 0 (λ e. o (p - a) (omega arith) (omega arith)) ∙ q .rest k o;
+}
+
+pub filled-none : (xs : List ℕ) (a m : ℕ) (f : ℕ → ℕ) → Filled xs xs a m 0 f
+filled-none xs a m f = record { kept = kept-refl xs a m; holds = λ k h. absurd (omega arith) }
+
+pub filled-more : {xs ys : List ℕ} {a m n : ℕ} {f : ℕ → ℕ} {v : ℕ} → Filled xs ys a m n f → n < m → a + m ≤ length xs → v ≡ f n → Filled xs (set ys (a + n) v) a m (n + 1) f
+filled-more {xs} {ys} {a} {m} {n} {f} {v} q h b e = record {
+  kept = kept-set (q .kept) (a + n) v (omega arith) (omega arith);
+  holds = λ k l. set-cases (λ (z : ℕ). z ≡ f k) ys (a + n) v (a + k) (omega (arith, q .kept .len)) (λ s. e ∙ ap f (omega arith)) (λ s. q .holds k (omega (arith, s)));
+}
+
+-- ---- a part from a up to e that was lent and has come back as ys
+
+module _ (xs ys : List ℕ) (a e : ℕ) (ae : a ≤ e) (el : e ≤ length xs) (same : length ys ≡ e - a) where
+  front : length (take a xs) ≡ a
+  front = length-take-le a xs (omega arith)
+
+  past : (k : ℕ) → getD (putMid a (e - a) xs ys) (a + k) 0 ≡ getD (ys ++ drop (e - a) (drop a xs)) k 0
+  past k = ap (λ (n : ℕ). getD (putMid a (e - a) xs ys) (n + k) 0) (sym front) ∙ getD-append-add (take a xs) (ys ++ drop (e - a) (drop a xs)) k 0
+
+  pub part-before : (k : ℕ) → k < a → getD (putMid a (e - a) xs ys) k 0 ≡ getD xs k 0
+  part-before k h = List·getD-append (take a xs) (ys ++ drop (e - a) (drop a xs)) 0 k (omega (arith, front)) ∙ getD-take a xs k 0 h
+
+  pub part-in : (k : ℕ) → k < e - a → getD (putMid a (e - a) xs ys) (a + k) 0 ≡ getD ys k 0
+  part-in k h = past k ∙ List·getD-append ys (drop (e - a) (drop a xs)) 0 k (omega arith)
+
+  pub part-after : (k : ℕ) → e ≤ k → getD (putMid a (e - a) xs ys) k 0 ≡ getD xs k 0
+  part-after k h =
+      let j : ℕ = k - e in
+      let split : k ≡ a + (length ys + j) = omega arith in
+      ap (λ (n : ℕ). getD (putMid a (e - a) xs ys) n 0) split ∙ past (length ys + j)
+      ∙ getD-append-add ys (drop (e - a) (drop a xs)) j 0
+      ∙ getD-drop (e - a) (drop a xs) j 0 ∙ getD-drop a xs ((e - a) + j) 0
+      ∙ ap (λ (n : ℕ). getD xs n 0) (omega arith)
+
+  pub part-len : length (putMid a (e - a) xs ys) ≡ length xs
+  part-len = same-len-mid a (e - a) xs ys (same ∙ sym (mid-len a e xs el))
+
+  pub part-kept : Kept xs (putMid a (e - a) xs ys) a (e - a)
+  part-kept = record { len = part-len; rest = λ k o. go k o (decLt k a) (decLt k e) }
+    where
+      go : (k : ℕ) → Outside a (e - a) k → Dec (k < a) → Dec (k < e) → getD (putMid a (e - a) xs ys) k 0 ≡ getD xs k 0
+      go k o (yes l) r = part-before k l
+      go k o (no l) (yes r) = absurd (o (k - a) (omega arith) (omega arith))
+      go k o (no l) (no r) = part-after k (omega arith)
