@@ -1,6 +1,8 @@
 // The second rule: quads whose opposing sides are uneven.
 ghost use mathlib.Core.Path.{_≡_};
 ghost use Prim.Native.Nat.{ℕ, _+_, _*_, _≤_, _<_};
+ghost use lib.Ieee as Ieee;
+ghost use lib.Ieee.{binary32};
 ghost use lib.ListN.{length, getD};
 ghost use Rattle.words.specs.Regions.{Filled};
 ghost use Rattle.filter.specs.Layout.{lengthsAt};
@@ -30,10 +32,17 @@ fn raise(m: f32) -> f32
     if m < TINY { TINY } else { m }
 }
 
+// The lesser alone is raised.
+fn over(most: f32, least: f32) -> f32
+    ensures { λ r. ⌜ r ≡ Ieee.div binary32 most (raised least) ⌝ }
+{
+    most / raise(least)
+}
+
 fn ratio(a: f32, b: f32) -> f32
     ensures { λ r. ⌜ r ≡ ratioOf a b ⌝ }
 {
-    greater(a, b) / raise(lesser(a, b))
+    over(greater(a, b), lesser(a, b))
 }
 
 // The length of side k of quad q, of n.

@@ -1,6 +1,6 @@
 // The third rule: quads of the wrong size in their group, by the median of the group's sides.
 ghost use mathlib.Core.Path.{_≡_};
-ghost use Prim.Native.Nat.{ℕ, _+_, _*_, _/_, _≤_, _<_};
+ghost use Prim.Native.Nat.{ℕ, _+_, _-_, _*_, _/_, _≤_, _<_};
 ghost use lib.ListN.{length, getD};
 ghost use Rattle.words.specs.Order.{wordOf};
 ghost use Rattle.words.specs.Regions.{Filled};
@@ -52,6 +52,14 @@ fn run_end(work: &[u32], n: usize, s: usize) -> usize
     e
 }
 
+// The middle one of the places from s up to e; of an even number the higher.
+fn middle(s: usize, e: usize) -> usize
+    requires { ⌜ s < e ⌝ }
+    ensures { λ r. ⌜ r ≡ s + (e - s) / 2 ⌝ }
+{
+    s + (e - s) / 2
+}
+
 // Each group's median: the middle one of its run of records.
 fn write_medians(work: &mut [u32], n: usize)
     requires { ⌜ mediansAt n + n ≤ length (now work) ⌝ }
@@ -62,7 +70,8 @@ fn write_medians(work: &mut [u32], n: usize)
     while s < 4 * n {
         let e = run_end(work, n, s);
         let group = wide(work[2 * n + 2 * s + 1]);
-        work[MEDIANS * n + group] = work[2 * n + 2 * (s + (e - s) / 2)];
+        let mid = middle(s, e);
+        work[MEDIANS * n + group] = work[2 * n + 2 * mid];
         s = e;
     }
 }

@@ -10,12 +10,12 @@ greater-requires c κs = search needs
 lesser-requires : tie.Need-lesser-requires
 lesser-requires c κs = search needs
 
-raise-requires : tie.Need-raise-requires
-raise-requires c κs = search needs
+over-requires : tie.Need-over-requires
+over-requires c κs = search needs
 
 returns : tie.Need-returns
 unfolding ratioOf
-returns c = rw (c .raise .ensures, c .before .lesser .ensures, c .before .before .greater .ensures)
+returns c = rw (c .over .ensures, c .before .lesser .ensures, c .before .before .greater .ensures)
 
 pub ratio-spec : {M : Type 1} → statement M
-ratio-spec = tie.close (tie.spec greater-requires lesser-requires raise-requires returns)
+ratio-spec = tie.close (tie.spec greater-requires lesser-requires over-requires returns)

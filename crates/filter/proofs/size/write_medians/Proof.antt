@@ -45,26 +45,27 @@ slice-read-wide c = search needs
 wide-requires : tie.Need-wide-requires Inv-loop μ-loop
 wide-requires c κs = search needs
 
+middle-requires : tie.Need-middle-requires Inv-loop μ-loop
+middle-requires c κs = c .before .before .run-end .ensures .some
+
 mul-work : tie.Need-mul-work Inv-loop μ-loop
 mul-work c = search needs
 
-sub-work : tie.Need-sub-work Inv-loop μ-loop
-sub-work c = search needs
-
-add-work : tie.Need-add-work Inv-loop μ-loop
-add-work c = search needs
+-- the middle is in the run
+inside : (c : tie.After-middle Inv-loop μ-loop) → c .middle .result < 4 * c .before .before .before .before .before .before .before .before .args .n
+inside c = omega (arith, c .middle .ensures, c .before .before .before .run-end .ensures .some, c .before .before .before .run-end .ensures .within)
 
 mul-work-2 : tie.Need-mul-work-2 Inv-loop μ-loop
-mul-work-2 c = search needs
+mul-work-2 c = omega (arith, inside c)
 
-add-work-2 : tie.Need-add-work-2 Inv-loop μ-loop
-add-work-2 c = search needs
+add-work : tie.Need-add-work Inv-loop μ-loop
+add-work c = omega (arith, inside c)
 
 mul-work-3 : tie.Need-mul-work-3 Inv-loop μ-loop
-mul-work-3 c = search needs
+mul-work-3 c = omega (arith, inside c)
 
 slice-read-work : tie.Need-slice-read-work Inv-loop μ-loop
-slice-read-work c = search needs
+slice-read-work c = omega (arith, inside (c .before))
 
 mul-work-4 : tie.Need-mul-work-4 Inv-loop μ-loop
 mul-work-4 c = search needs
@@ -74,22 +75,22 @@ small c =
     let l = c .before .before .before .before .before in
     omega (arith, c .wide .ensures, group-small (l .before .before .pre .1) (l .loop .inv) (c .before .before .before .before .loop-test .taken))
 
-add-work-3 : tie.Need-add-work-3 Inv-loop μ-loop
-add-work-3 c = omega (arith, small (c .before))
+add-work-2 : tie.Need-add-work-2 Inv-loop μ-loop
+add-work-2 c = omega (arith, small (c .before .before))
 
 mul-work-5 : tie.Need-mul-work-5 Inv-loop μ-loop
-mul-work-5 c = omega (arith, small (c .before))
+mul-work-5 c = omega (arith, small (c .before .before))
 
 slice-write-work : tie.Need-slice-write-work Inv-loop μ-loop
-slice-write-work c = omega (arith, small (c .before))
+slice-write-work c = omega (arith, small (c .before .before))
 
 loop-less : tie.Need-loop-less Inv-loop μ-loop
 loop-less c = search needs
 
 loop-again : tie.Need-loop-again Inv-loop μ-loop
 loop-again c =
-    let s = c .before .before .before .before .before .before .before .before in
-    runs-more _ (s .pre .1) (c .before .before .before .before .before .before .loop .inv) (s .pre .0) (c .before .before .before .run-end .ensures) (c .before .wide .ensures)
+    let s = c .before .before .before .before .before .before .before .before .before in
+    rw (c .before .middle .ensures) (runs-more _ (s .pre .1) (c .before .before .before .before .before .before .before .loop .inv) (s .pre .0) (c .before .before .before .before .run-end .ensures) (c .before .before .wide .ensures))
 
 same-length : tie.Need-same-length Inv-loop μ-loop
 same-length c = search needs
@@ -115,15 +116,14 @@ write-medians-spec =
     mul-wide-3
     slice-read-wide
     wide-requires
+    middle-requires
     mul-work
-    sub-work
-    add-work
     mul-work-2
-    add-work-2
+    add-work
     mul-work-3
     slice-read-work
     mul-work-4
-    add-work-3
+    add-work-2
     mul-work-5
     slice-write-work
     loop-less
