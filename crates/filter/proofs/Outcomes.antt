@@ -10,17 +10,18 @@ use Rattle.refusal.specs.declared.Gate.the-variants.{Open, Shut}
 use Rattle.refusal.specs.declared.Refusal.{Refusal}
 use Rattle.refusal.specs.declared.Refusal.the-variants.{RecordsShort}
 use Rattle.words.specs.Sorting.{equal}
+use Rattle.mesh.specs.Lists.{quadWords}
 use Rattle.quads.specs.Call.{roomRow, wordsOf}
 use Rattle.filter.specs.declared.Filtered.the-variants.{Done, Refused}
 use Rattle.filter.specs.Input.{Input, quadCount}
 use Rattle.filter.specs.Marks.{keptTo, keptOf}
-use Rattle.filter.specs.Call.{wordsWanted, entryGate, Outcome, outcomeBy, Allowed}
+use Rattle.filter.specs.Call.{entryGate, Outcome, outcomeBy, Allowed}
 use Rattle.filter.specs.Call.Allowed.{refused as by-rows, judged as by-marks}
 use Rattle.filter.specs.Steps.{Sound, Judged}
 use Rattle.filter.proofs.Kept.{kept-count, kept-same, count-le}
 
 -- the marks have room in a workspace that is long enough
-pub front : (i : Input) (work mid : List ℕ) → wordsWanted (quadCount i) (length (i .xs)) ≤ length work → Judged i work mid → quadCount i ≤ length mid
+pub front : (i : Input) (work mid : List ℕ) → quadWords (quadCount i) (length (i .xs)) ≤ length work → Judged i work mid → quadCount i ≤ length mid
 front i work mid h j = omega (arith, j .len)
 
 -- the count is a word, and where it is within the room, so are the quads

@@ -4,19 +4,16 @@ use mathlib.Core.Path.{_≡_}
 use mathlib.Core.Bool.{false}
 use Prim.Native.Nat.{ℕ, _/_, _%_, _≤_, _<_}
 use native.Mathlib.Omega.{arith}
-use borrow.Author.Tests.{ltb-false}
-use lib.Dec.{ltb}
 use lib.ListN.{length, getD}
 use Rattle.refusal.specs.declared.Gate.the-variants.{Open}
-use Rattle.refusal.specs.declared.Refusal.the-variants.{WorkspaceShort}
 use Rattle.refusal.specs.Rows.{_then_}
-use Rattle.refusal.proofs.Rows.{open-both, open-if}
-use Rattle.mesh.specs.Lists.{pairedRow, wholeRow, limitRow, mostCorners, mostQuads}
+use Rattle.refusal.proofs.Rows.{open-both}
+use Rattle.mesh.specs.Lists.{pairedRow, wholeRow, limitRow, mostCorners, mostQuads, workRow, quadWords}
 use Rattle.mesh.specs.Positions.{positionsRow}
 use Rattle.mesh.specs.Cells.{cornersRow, namesTwice, twiceRow}
-use Rattle.mesh.proofs.Open.{paired-open, limit-open, corners-open, twice-open}
+use Rattle.mesh.proofs.Open.{paired-open, limit-open, work-open, corners-open, twice-open}
 use Rattle.filter.specs.Input.{Input, quadCount}
-use Rattle.filter.specs.Call.{lengthsGate, paramsGate, valuesGate, gateOf, wordsWanted, workRow, entryGate}
+use Rattle.filter.specs.Call.{lengthsGate, paramsGate, valuesGate, gateOf, entryGate}
 use Rattle.filter.specs.Steps.{Sound}
 
 pub record Paired (x y quads : ℕ) : Type 0 where
@@ -67,12 +64,8 @@ gate-sound i e =
       differ = v .1;
     }
 
-work-open : (words quads corners : ℕ) → workRow words quads corners ≡ Open → wordsWanted quads corners ≤ words
-unfolding workRow
-work-open words quads corners e = ltb-false words (wordsWanted quads corners) (open-if (ltb words (wordsWanted quads corners)) (WorkspaceShort (wordsWanted quads corners)) e)
-
-pub entry-sound : (i : Input) (words : ℕ) → entryGate i words ≡ Open → Sound i × (wordsWanted (quadCount i) (length (i .xs)) ≤ words)
+pub entry-sound : (i : Input) (words : ℕ) → entryGate i words ≡ Open → Sound i × (quadWords (quadCount i) (length (i .xs)) ≤ words)
 unfolding entryGate
 entry-sound i words e =
-    let both = open-both (gateOf i) (workRow words (quadCount i) (length (i .xs))) e in
-    (gate-sound i (both .0), work-open words (quadCount i) (length (i .xs)) (both .1))
+    let both = open-both (gateOf i) (workRow words (quadWords (quadCount i) (length (i .xs)))) e in
+    (gate-sound i (both .0), work-open words (quadWords (quadCount i) (length (i .xs))) (both .1))

@@ -2,16 +2,14 @@
 -- zero after row 9 and on success, and untouched by every other refusal.
 use mathlib.Core.Path.{_≡_}
 use mathlib.Core.List.{List, _++_}
-use Prim.Native.Nat.{ℕ, _+_, _*_, _/_}
-use lib.Dec.{ltb}
+use Prim.Native.Nat.{ℕ, _*_, _/_}
 use lib.ListN.{length, drop, replicate}
 use Rattle.refusal.specs.declared.Gate.{Gate}
 use Rattle.refusal.specs.declared.Gate.the-variants.{Open, Shut}
 use Rattle.refusal.specs.declared.Refusal.{Refusal}
-use Rattle.refusal.specs.declared.Refusal.the-variants.{WorkspaceShort}
-use Rattle.refusal.specs.Rows.{refuseIf, _then_}
+use Rattle.refusal.specs.Rows.{_then_}
 use Rattle.measure.specs.Parameter.{parameterRow}
-use Rattle.mesh.specs.Lists.{pairedRow, wholeRow, limitRow, mostCorners, mostQuads}
+use Rattle.mesh.specs.Lists.{pairedRow, wholeRow, limitRow, mostCorners, mostQuads, workRow, quadWords}
 use Rattle.mesh.specs.Positions.{positionsRow}
 use Rattle.mesh.specs.Cells.{cornersRow, twiceRow}
 use Rattle.quads.specs.declared.Quad.{Quad}
@@ -37,15 +35,9 @@ valuesGate i = positionsRow (i .xs) (i .ys) then cornersRow (length (i .xs)) (i 
 unfoldable pub gateOf : Input → Gate
 gateOf i = lengthsGate (length (i .xs)) (length (i .ys)) (length (i .quads)) then paramsGate (i .params) then valuesGate i
 
--- row 8: 32·quads + 16·corners words
-abbrev pub wordsWanted : ℕ → ℕ → ℕ
-wordsWanted quads corners = 32 * quads + 16 * corners
-
-unfoldable pub workRow : ℕ → ℕ → ℕ → Gate
-workRow words quads corners = refuseIf (ltb words (wordsWanted quads corners)) (WorkspaceShort (wordsWanted quads corners))
-
+-- row 8
 unfoldable pub entryGate : Input → ℕ → Gate
-entryGate i words = gateOf i then workRow words (quadCount i) (length (i .xs))
+entryGate i words = gateOf i then workRow words (quadWords (quadCount i) (length (i .xs)))
 
 -- the answer, and the lists that could change
 pub record Outcome : Type 0 where

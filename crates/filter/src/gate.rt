@@ -3,7 +3,7 @@ ghost use mathlib.Core.Path.{_≡_};
 ghost use Prim.Native.Nat.{_/_, _≤_};
 ghost use lib.ListN.{length};
 ghost use Rattle.mesh.specs.Lists.{mostCorners, mostQuads};
-ghost use Rattle.filter.specs.Call.{lengthsGate, paramsGate, valuesGate, gateOf, workRow, entryGate};
+ghost use Rattle.filter.specs.Call.{lengthsGate, paramsGate, valuesGate, gateOf, entryGate};
 use crate::FilterParams;
 use measure::inner::parameter_row;
 use mesh::inner::cells::corners_row;
@@ -12,10 +12,11 @@ use mesh::inner::lists::MOST_CORNERS;
 use mesh::inner::lists::MOST_QUADS;
 use mesh::inner::lists::limit_row;
 use mesh::inner::lists::paired_row;
+use mesh::inner::lists::quad_words;
 use mesh::inner::lists::whole_row;
+use mesh::inner::lists::work_row;
 use mesh::inner::positions::positions_row;
 use refusal::Gate;
-use refusal::Refusal;
 use refusal::inner::in_order;
 
 // Rows 1 and 2.
@@ -57,25 +58,13 @@ fn judge(x: &[f32], y: &[f32], quads: &[u32], params: FilterParams) -> Gate
     }
 }
 
-// Row 8, for counts that row 2 let through.
-fn work_row(words: usize, quads: usize, corners: usize) -> Gate
-    requires { ⌜ (quads ≤ mostQuads) × (corners ≤ mostCorners) ⌝ }
-    ensures { λ r. ⌜ r ≡ workRow words quads corners ⌝ }
-{
-    let wanted = 32 * quads + 16 * corners;
-    if words < wanted {
-        return Gate::Shut(Refusal::WorkspaceShort(wanted as u32));
-    }
-    Gate::Open
-}
-
 // All rows but the ninth.
 pub(crate) fn entry(x: &[f32], y: &[f32], quads: &[u32], params: FilterParams, words: usize) -> Gate
     ensures { λ r. ⌜ r ≡ entryGate (record { xs = now (x .entry); ys = now (y .entry); quads = now (quads .entry); params = params }) words ⌝ }
 {
     let gate = judge(x, y, quads, params);
     match gate {
-        Gate::Open => work_row(words, quads.len() / 4, x.len()),
+        Gate::Open => work_row(words, quad_words(quads.len() / 4, x.len())),
         Gate::Shut(why) => Gate::Shut(why),
     }
 }

@@ -1,4 +1,4 @@
--- What a row that is open says: equal lengths, counts within limits, positions, corners that exist and differ, twins that point
+-- What a row that is open says: equal lengths, counts within limits, words enough, positions, corners that exist and differ, twins that point
 -- back. Assumes nothing.
 use mathlib.Core.Path.{_≡_, refl, sym}
 use mathlib.Core.Bool.{Bool, true, false, not, _&&_, _||_, false≢true}
@@ -9,10 +9,10 @@ use lib.Dec.{eqb, ltb}
 use lib.Ieee.{Float, nan}
 use lib.ListN.{length, getD}
 use Rattle.refusal.specs.declared.Gate.the-variants.{Open}
-use Rattle.refusal.specs.declared.Refusal.the-variants.{Unpaired, OverLimit, OutOfRange, NoSuchCorner, CornerTwice}
+use Rattle.refusal.specs.declared.Refusal.the-variants.{Unpaired, OverLimit, WorkspaceShort, OutOfRange, NoSuchCorner, CornerTwice}
 use Rattle.refusal.proofs.Rows.{open-if, open-clear}
 use Rattle.measure.specs.Position.{isPosition}
-use Rattle.mesh.specs.Lists.{pairedRow, limitRow}
+use Rattle.mesh.specs.Lists.{pairedRow, limitRow, workRow}
 use Rattle.mesh.specs.Positions.{misplaced, positionsRow}
 use Rattle.mesh.specs.Cells.{notBelow, cornersRow, namesTwice, twiceRow}
 use Rattle.mesh.specs.HalfEdge.{noTwin}
@@ -23,6 +23,9 @@ paired-open a b e = eqb-true a b (not-false (eqb a b) (open-if (not (eqb a b)) U
 
 pub limit-open : (count most : ℕ) → limitRow count most ≡ Open → count ≤ most
 limit-open count most e = ltb-false most count (open-if (ltb most count) OverLimit e)
+
+pub work-open : (words wanted : ℕ) → workRow words wanted ≡ Open → wanted ≤ words
+work-open words wanted e = ltb-false words wanted (open-if (ltb words wanted) (WorkspaceShort wanted) e)
 
 both-true : (a b : Bool) → not (a && b) ≡ false → (a ≡ true) × (b ≡ true)
 both-true true true e = (refl, refl)

@@ -1,9 +1,9 @@
--- Rows 1 and 2: lengths that belong together, lists of whole records, and counts within their limits.
-use Prim.Native.Nat.{ℕ, _*_, _%_}
+-- Rows 1, 2 and 8: lengths that belong together, lists of whole records, counts within their limits, and a workspace that is long enough.
+use Prim.Native.Nat.{ℕ, _+_, _*_, _%_}
 use mathlib.Core.Bool.{not}
 use lib.Dec.{eqb, ltb}
 use Rattle.refusal.specs.declared.Gate.{Gate}
-use Rattle.refusal.specs.declared.Refusal.the-variants.{Unpaired, OverLimit}
+use Rattle.refusal.specs.declared.Refusal.the-variants.{Unpaired, OverLimit, WorkspaceShort}
 use Rattle.refusal.specs.Rows.{refuseIf}
 
 -- a list of length a has a slot for each of b
@@ -30,3 +30,10 @@ mostHalfEdges = 24576
 
 abbrev pub mostQuads : ℕ
 mostQuads = 4096
+
+abbrev pub workRow : ℕ → ℕ → Gate
+workRow words wanted = refuseIf (ltb words wanted) (WorkspaceShort wanted)
+
+-- what filters alone and labelling alone want
+abbrev pub quadWords : ℕ → ℕ → ℕ
+quadWords quads corners = 32 * quads + 16 * corners

@@ -4,7 +4,7 @@ use Prim.Native.Nat.{_≤_}
 use native.Mathlib.Omega.{arith}
 use lib.ListN.{length}
 use Rattle.filter.specs.Input.{Input, quadCount}
-use Rattle.filter.specs.Call.{wordsWanted}
+use Rattle.mesh.specs.Lists.{quadWords}
 use Rattle.filter.specs.Steps.{Sound}
 use Rattle.filter.proofs.Sound.{entry-sound}
 use Rattle.filter.proofs.Outcomes.{front, few, room, refused, short, done}
@@ -16,7 +16,7 @@ abbrev read : tie.Start → Input
 read s = record { xs = s .args .x .now; ys = s .args .y .now; quads = s .args .quads .now; params = s .args .params }
 
 -- what the rows have shown, where they are open
-open-rows : (c : tie.After-enum-told) → Sound (read (c .before .before .before .before .before .before .before .before)) × (wordsWanted (quadCount (read (c .before .before .before .before .before .before .before .before))) (length (c .before .before .before .before .before .before .before .before .args .x .now)) ≤ length (c .before .before .before .before .before .before .before .before .args .work .now))
+open-rows : (c : tie.After-enum-told) → Sound (read (c .before .before .before .before .before .before .before .before)) × (quadWords (quadCount (read (c .before .before .before .before .before .before .before .before))) (length (c .before .before .before .before .before .before .before .before .args .x .now)) ≤ length (c .before .before .before .before .before .before .before .before .args .work .now))
 open-rows c = entry-sound _ _ (sym (c .before .before .entry .ensures) ∙ c .enum-told .given .1)
 
 entry-requires : tie.Need-entry-requires

@@ -1,7 +1,7 @@
-// Rows 1 and 2: lengths that belong together, whole records, counts within limits.
+// Rows 1, 2 and 8: lengths that belong together, whole records, counts within limits, a workspace that is long enough.
 ghost use mathlib.Core.Path.{_≡_};
-ghost use Prim.Native.Nat.{_<_};
-ghost use Rattle.mesh.specs.Lists.{pairedRow, doubledRow, wholeRow, limitRow};
+ghost use Prim.Native.Nat.{_≤_, _<_};
+ghost use Rattle.mesh.specs.Lists.{pairedRow, doubledRow, wholeRow, limitRow, mostCorners, mostQuads, workRow, quadWords};
 use refusal::Gate;
 use refusal::Refusal;
 
@@ -47,4 +47,24 @@ pub fn limit_row(count: usize, most: usize) -> Gate
     } else {
         Gate::Open
     }
+}
+
+// The words wanted are counted from numbers that row 2 let through.
+pub fn work_row(words: usize, wanted: usize) -> Gate
+    requires { ⌜ wanted < 4294967296 ⌝ }
+    ensures { λ r. ⌜ r ≡ workRow words wanted ⌝ }
+{
+    if words < wanted {
+        Gate::Shut(Refusal::WorkspaceShort(wanted as u32))
+    } else {
+        Gate::Open
+    }
+}
+
+// Row 2 has let through the numbers.
+pub fn quad_words(quads: usize, corners: usize) -> usize
+    requires { ⌜ (quads ≤ mostQuads) × (corners ≤ mostCorners) ⌝ }
+    ensures { λ r. ⌜ r ≡ quadWords quads corners ⌝ }
+{
+    32 * quads + 16 * corners
 }
