@@ -1,5 +1,7 @@
-// The archive's calls on single floats as safe functions: each is total, so nothing has to be tested first.
+// The archive's calls as safe functions: each is total, so nothing has to be tested first.
 // The declarations follow crates/abi/src/lib.rt; nothing checks them against it.
+
+use frame::Frame;
 
 #[repr(C)]
 #[derive(Clone, Copy)]
@@ -16,10 +18,33 @@ struct Apart {
     value: f32,
 }
 
+#[repr(C)]
+#[derive(Clone, Copy)]
+struct Count {
+    refused: u32,
+    place: u32,
+    count: u32,
+}
+
 extern "C" {
     fn ngeunsadok_root(x: f32) -> Number;
     fn ngeunsadok_angle(dx: f32, dy: f32) -> Number;
     fn ngeunsadok_distance(angle: f32, axis: f32) -> Apart;
+    fn ngeunsadok_filter_quads(
+        x: *const f32,
+        xs: usize,
+        y: *const f32,
+        ys: usize,
+        quads: *const u32,
+        quad_words: usize,
+        ratio: f32,
+        least: f32,
+        greatest: f32,
+        work: *mut u32,
+        work_words: usize,
+        kept: *mut u32,
+        kept_words: usize,
+    ) -> Count;
 }
 
 /// A number, or the refusal's number and place.
@@ -47,4 +72,34 @@ pub fn angle(dx: f32, dy: f32) -> Measured {
 pub fn distance(angle: f32, axis: f32) -> Option<f32> {
     let d = unsafe { ngeunsadok_distance(angle, axis) };
     (d.known == 1).then_some(d.value)
+}
+
+/// How many quads are kept, or the refusal's number and place.
+pub type Filtered = Result<usize, (u32, u32)>;
+
+/// Of the frame, the positions and three parameters are read.
+pub fn filter_quads(frame: &Frame, quads: &[u32], work: &mut [u32], kept: &mut [u32]) -> Filtered {
+    let (x, y, params) = (&frame.x, &frame.y, &frame.params);
+    let told = unsafe {
+        ngeunsadok_filter_quads(
+            x.as_ptr(),
+            x.len(),
+            y.as_ptr(),
+            y.len(),
+            quads.as_ptr(),
+            quads.len(),
+            params.ratio,
+            params.least,
+            params.greatest,
+            work.as_mut_ptr(),
+            work.len(),
+            kept.as_mut_ptr(),
+            kept.len(),
+        )
+    };
+    if told.refused == 0 {
+        Ok(told.count as usize)
+    } else {
+        Err((told.refused, told.place))
+    }
 }

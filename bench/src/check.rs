@@ -6,14 +6,14 @@ use oracle::random::Random;
 
 /// Counts what differs and keeps the first.
 #[derive(Default)]
-struct Tally {
+pub struct Tally {
     compared: u64,
     different: u64,
     first: Option<String>,
 }
 
 impl Tally {
-    fn add(&mut self, same: bool, what: impl FnOnce() -> String) {
+    pub fn add(&mut self, same: bool, what: impl FnOnce() -> String) {
         self.compared += 1;
         if !same {
             self.different += 1;
@@ -21,7 +21,7 @@ impl Tally {
         }
     }
 
-    fn print(&self, name: &str) {
+    pub fn print(&self, name: &str) {
         println!("{name}: {} compared, {} different", self.compared, self.different);
         if let Some(first) = &self.first {
             println!("  first: {first}");

@@ -1,13 +1,13 @@
 // Sits inside the module of the stages, where their inner items can be reached, and runs
 // them in the order in which the original strings them together.
 
-use frame::{AxisPair, Component, Entry, Frame, Stages, NONE};
+use frame::{AxisPair, Component, Entry, Frame, Params, Stages, NONE};
 use nalgebra::Point2;
 
 use super::axis::{build_axis_caches, AxisCache};
 use super::classify::{classify_all_edges, EdgeClass};
 use super::delaunay::Triangulation;
-use super::filter::{filter_quads_observed, FilterStage};
+use super::filter::{filter_quads, filter_quads_observed, FilterStage};
 use super::quads::{merge_triangle_pairs, Quad};
 use super::walk::{label_components, TopologicalComponent};
 use crate::feature::{LocalAxis, OrientedFeature};
@@ -79,18 +79,19 @@ fn component(found: &TopologicalComponent) -> Component {
     Component::of(found.labelled.iter().map(entry).collect())
 }
 
+fn own_quads(quads: &[[u32; 4]]) -> Vec<Quad> {
+    quads.iter().map(|q| Quad { vertices: q.map(|c| c as usize) }).collect()
+}
+
 /// The labelling alone. The original numbers its groups by their lowest quad and drops
 /// some in passing, so its own order of components is already document 01's.
 pub fn label(quads: &[[u32; 4]], least_quads: u32, least_corners: u32) -> Vec<Component> {
-    let quad = |q: &[u32; 4]| Quad { vertices: q.map(|c| c as usize) };
-    let quads: Vec<Quad> = quads.iter().map(quad).collect();
-    let found = label_components(&quads, least_quads as usize, least_corners as usize);
+    let found = label_components(&own_quads(quads), least_quads as usize, least_corners as usize);
     found.iter().map(component).collect()
 }
 
 /// The filters alone: what each of the three keeps.
 pub fn filter(quads: &[[u32; 4]], frame: &Frame) -> [Vec<[u32; 4]>; 3] {
-    let quad = |q: &[u32; 4]| Quad { vertices: q.map(|c| c as usize) };
     let params = &frame.params;
     let mut kept: [Vec<[u32; 4]>; 3] = Default::default();
     let mut observer = |stage: FilterStage, quads: &[Quad]| {
@@ -102,7 +103,7 @@ pub fn filter(quads: &[[u32; 4]], frame: &Frame) -> [Vec<[u32; 4]>; 3] {
         kept[place] = quad_words(quads);
     };
     filter_quads_observed(
-        quads.iter().map(quad).collect(),
+        own_quads(quads),
         &positions(frame),
         params.ratio,
         params.least,
@@ -110,6 +111,26 @@ pub fn filter(quads: &[[u32; 4]], frame: &Frame) -> [Vec<[u32; 4]>; 3] {
         Some(&mut observer),
     );
     kept
+}
+
+/// The filters with all that they read already in the original's own form, to be timed alone.
+#[derive(Clone)]
+pub struct Filtering {
+    quads: Vec<Quad>,
+    positions: Vec<Point2<f32>>,
+    params: Params,
+}
+
+impl Filtering {
+    pub fn of(quads: &[[u32; 4]], frame: &Frame) -> Filtering {
+        Filtering { quads: own_quads(quads), positions: positions(frame), params: frame.params }
+    }
+
+    /// How many quads are kept.
+    pub fn run(self) -> usize {
+        let Params { ratio, least, greatest, .. } = self.params;
+        filter_quads(self.quads, &self.positions, ratio, least, greatest).len()
+    }
 }
 
 fn caches(frame: &Frame) -> Vec<AxisCache> {

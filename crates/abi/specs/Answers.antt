@@ -1,12 +1,20 @@
 -- An answer as numbers that cross the boundary to C.
+use mathlib.Core.List.{List}
+use mathlib.Core.Path.{_≡_}
+use Prim.Native.Nat.{ℕ}
 use lib.Ieee.{binary32, ofBits}
 use Rattle.measure.specs.declared.Measured.{Measured}
 use Rattle.measure.specs.declared.Measured.the-variants.{Known, Refused}
 use Rattle.measure.specs.declared.Distance.{Distance}
 use Rattle.measure.specs.declared.Distance.the-variants as distance
 use Rattle.refusal.specs.Table.{numberOf, placeOf}
+use Rattle.filter.specs.declared.Filtered.{Filtered}
+use Rattle.filter.specs.declared.Filtered.the-variants as filtered
+use Rattle.filter.specs.Input.{Input}
+use Rattle.filter.specs.Call.{Allowed}
 use Rattle.abi.specs.declared.Number.{Number}
 use Rattle.abi.specs.declared.Apart.{Apart}
+use Rattle.abi.specs.declared.Count.{Count}
 
 abbrev pub numberFrom : Measured → Number
 numberFrom (Known x) = record { refused = 0; place = 0; value = x }
@@ -15,3 +23,13 @@ numberFrom (Refused why) = record { refused = numberOf why; place = placeOf why;
 abbrev pub apartFrom : Distance → Apart
 apartFrom (distance.Known x) = record { known = 1; value = x }
 apartFrom distance.Missing = record { known = 0; value = ofBits binary32 0 }
+
+abbrev pub countFrom : Filtered → Count
+countFrom (filtered.Done n) = record { refused = 0; place = 0; count = n }
+countFrom (filtered.Refused why) = record { refused = numberOf why; place = placeOf why; count = 0 }
+
+-- what is told of the filters, and both lists after, are an outcome that the call allows
+pub record FilterTold (i : Input) (work kept : List ℕ) (told : Count) (workAfter keptAfter : List ℕ) : Type 0 where
+  pub answer : Filtered
+  pub tells : told ≡ countFrom answer
+  pub allowed : Allowed i work kept (record { answer = answer; work = workAfter; kept = keptAfter })

@@ -3,7 +3,9 @@ ghost use mathlib.Core.Path.{_≡_};
 ghost use Rattle.measure.specs.Angle.{angleOf};
 ghost use Rattle.measure.specs.Distance.{distanceOf};
 ghost use Rattle.measure.specs.RootComputed.{rootOf};
-ghost use Rattle.abi.specs.Answers.{numberFrom, apartFrom};
+ghost use Rattle.abi.specs.Answers.{numberFrom, apartFrom, countFrom, FilterTold};
+use filter::FilterParams;
+use filter::Filtered;
 use measure::Distance;
 use measure::Measured;
 
@@ -20,6 +22,14 @@ pub struct Number {
 pub struct Apart {
     pub known: u32,
     pub value: f32,
+}
+
+// refused is 0 beside a count; else it is the refusal's number, place its place, and count 0.
+#[repr(C)]
+pub struct Count {
+    pub refused: u32,
+    pub place: u32,
+    pub count: u32,
 }
 
 fn tell_number(answer: Measured) -> Number
@@ -51,6 +61,23 @@ fn tell_distance(answer: Distance) -> Apart
     }
 }
 
+fn tell_filtered(answer: Filtered) -> Count
+    ensures { λ r. ⌜ r ≡ countFrom answer ⌝ }
+{
+    match answer {
+        Filtered::Done(count) => Count {
+            refused: 0,
+            place: 0,
+            count,
+        },
+        Filtered::Refused(why) => Count {
+            refused: refusal::number(why),
+            place: refusal::place(why),
+            count: 0,
+        },
+    }
+}
+
 #[no_mangle]
 pub extern "C" fn ngeunsadok_root(x: f32) -> Number
     ensures { λ r. ⌜ r ≡ numberFrom (rootOf x) ⌝ }
@@ -70,4 +97,26 @@ pub extern "C" fn ngeunsadok_distance(angle: f32, axis: f32) -> Apart
     ensures { λ r. ⌜ r ≡ apartFrom (distanceOf angle axis) ⌝ }
 {
     tell_distance(measure::axis_distance(angle, axis))
+}
+
+// For C each list is a pointer and the number of its elements.
+#[no_mangle]
+pub extern "C" fn ngeunsadok_filter_quads(
+    x: &[f32],
+    y: &[f32],
+    quads: &[u32],
+    ratio: f32,
+    least: f32,
+    greatest: f32,
+    work: &mut [u32],
+    kept: &mut [u32],
+) -> Count
+    ensures { λ r. ⌜ FilterTold (record { xs = now (x .entry); ys = now (y .entry); quads = now (quads .entry); params = record { ratio = ratio; least = least; greatest = greatest } }) (now (work .entry)) (now (kept .entry)) r (now (work .exit)) (now (kept .exit)) ⌝ }
+{
+    let params = FilterParams {
+        ratio,
+        least,
+        greatest,
+    };
+    tell_filtered(filter::filter_quads(x, y, quads, params, work, kept))
 }

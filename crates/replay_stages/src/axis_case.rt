@@ -1,9 +1,7 @@
 // Kind 1: the axis cache of one corner.
 ghost use Prim.Native.Nat.{_≤_};
 ghost use lib.ListN.{length};
-ghost use Rattle.replay_stages.specs.Front.{Onward};
-use crate::list::after;
-use crate::runs::write_refusal;
+ghost use Rattle.vectors.specs.Lists.{Onward};
 use axis::AxisCache;
 use axis::Cached;
 use axis::Spread;
@@ -11,6 +9,8 @@ use axis::SpreadRule;
 use measure::inner::float_of;
 use measure::inner::word_of;
 use vectors::hex;
+use vectors::inner::list::after;
+use vectors::inner::runs::write_refusal;
 use vectors::word_at;
 
 // The spread whose mark stands at `at`.

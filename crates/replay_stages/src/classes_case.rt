@@ -1,16 +1,16 @@
 // Kind 2: the classes of a frame's half-edges.
 ghost use Prim.Native.Nat.{_≤_};
 ghost use lib.ListN.{length};
-ghost use Rattle.replay_stages.specs.Front.{Onward};
-use crate::list::after;
-use crate::list::fill;
-use crate::list::fill_floats;
-use crate::runs::write_refusal;
-use crate::runs::write_runs;
+ghost use Rattle.vectors.specs.Lists.{Onward};
 use axis::SpreadRule;
 use classify::Classified;
 use classify::EdgeParams;
 use measure::inner::float_of;
+use vectors::inner::list::after;
+use vectors::inner::list::fill;
+use vectors::inner::list::fill_floats;
+use vectors::inner::runs::write_refusal;
+use vectors::inner::runs::write_runs;
 use vectors::word_at;
 
 fn write_answer(answer: Classified) {

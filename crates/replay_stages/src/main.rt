@@ -5,9 +5,7 @@ ghost use lib.ListN.{length};
 
 mod axis_case;
 mod classes_case;
-mod list;
 mod quads_case;
-mod runs;
 
 // One case, by its kind; one of no known kind ends the file.
 fn replay(text: &[u8], at: usize) -> usize

@@ -1,20 +1,17 @@
 // Kind 3: the quads of a mesh.
 ghost use Prim.Native.Nat.{_≤_};
 ghost use lib.ListN.{length};
-ghost use Rattle.replay_stages.specs.Front.{Onward};
-use crate::list::fill;
-use crate::list::fill_floats;
-use crate::runs::write_refusal;
-use crate::runs::write_runs;
+ghost use Rattle.vectors.specs.Lists.{Onward};
 use quads::Merged;
+use vectors::inner::list::fill;
+use vectors::inner::list::fill_floats;
+use vectors::inner::runs::write_count;
+use vectors::inner::runs::write_refusal;
+use vectors::inner::runs::write_runs;
 
 fn write_answer(answer: Merged) {
     match answer {
-        Merged::Done(count) => {
-            io::write_all(1, b"done ");
-            io::print_decimal(1, count as u64);
-            io::write_all(1, b"\n");
-        }
+        Merged::Done(count) => write_count(count),
         Merged::Refused(why) => write_refusal(why),
     }
 }

@@ -1,5 +1,8 @@
-// A file of vectors, read whole.
+// A file of vectors, read whole; `list` takes lists from it, and `runs` writes them.
 ghost use Rattle.io.specs.Counts.{Counts};
+
+pub mod list;
+pub mod runs;
 
 // Writes a file's heading and reads the file to the start of text; answers how many bytes that is, 0 where it does not open. No
 // contract can speak of what a file holds, nor of standard output: the gate compares what the programs write.

@@ -1,5 +1,9 @@
-// The calls of the first three stages, whole: the rows that each has, and the ruled build's
-// answer. A refusal leaves the list as it was.
+// The calls of the stages, whole: the rows that each has, and the ruled build's answer. A refusal
+// leaves the list as it was.
+
+mod filters;
+
+pub use filters::{filters, words_wanted};
 
 use crate::judge::{counts, first_of, missing_corner, positions, repeated_corner, twins, Refusal};
 use frame::{AxisPair, Frame};

@@ -11,6 +11,7 @@ pub struct Refusal {
 
 pub const MOST_CORNERS: usize = 4_096;
 pub const MOST_HALF_EDGES: usize = 24_576;
+pub const MOST_QUADS: usize = 4_096;
 pub const GREATEST_POSITION: f32 = 1_048_576.0;
 
 /// Row 1: whether the lists pair up and hold whole triangles.
@@ -85,7 +86,7 @@ pub fn judge(frame: &Frame) -> Option<Refusal> {
 
 /// The refusals of labelling alone that a quad list and a number of corners can have.
 pub fn judge_quads(quads: &[u32], corners: usize) -> Option<Refusal> {
-    let over = corners > MOST_CORNERS || quads.len() > 4 * 4_096;
+    let over = corners > MOST_CORNERS || quads.len() > 4 * MOST_QUADS;
     let rows: [&dyn Fn() -> Option<usize>; 6] = [
         &|| (!quads.len().is_multiple_of(4)).then_some(0),
         &|| over.then_some(0),

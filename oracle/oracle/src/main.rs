@@ -17,6 +17,7 @@ oracle demand COUNT SEED       the original's walk beside document 01's third de
 oracle gap COUNT SEED          gap between document 01's numbers and the original's
 oracle vectors numbers DIR     vectors of the number calls, written into DIR
 oracle vectors stages DIR      vectors of axis cache, classes and quads, written into DIR
+oracle vectors filters DIR     vectors of the filters, written into DIR
 oracle help                    this list
 ";
 

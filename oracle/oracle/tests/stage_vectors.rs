@@ -1,5 +1,8 @@
 // The stage vectors: what they must contain, and document 01's words on every accepted case.
 
+mod common;
+
+use common::check_data;
 use oracle::vectors::stages::{answer, stage_cases, write_stages, Answer, Case, Kind, Summary};
 use oracle::words;
 
@@ -61,17 +64,6 @@ fn what_the_quads_cases_hold() {
         }
     }
     assert!(differ > 50 && full > 10 && surplus > 200 && none > 50);
-}
-
-/// Every word of a data file is eight digits and one separator; lines are whole cases.
-fn check_data(text: &str) {
-    assert!(text.len() <= 65_000 && text.len().is_multiple_of(9));
-    for line in text.split_inclusive('\n') {
-        let word = |bytes: &[u8]| bytes.iter().all(|b| b"0123456789ABCDEF".contains(b));
-        let (last, others) = line.as_bytes().split_last().unwrap();
-        assert_eq!(*last, b'\n');
-        assert!(others.split(|&b| b == b' ').all(|w| w.len() == 8 && word(w)));
-    }
 }
 
 #[test]

@@ -2,7 +2,7 @@
 
 include!(concat!(env!("OUT_DIR"), "/tree.rs"));
 
-pub use topological::driver::{axes, classes, filter, label, quads, run};
+pub use topological::driver::{axes, classes, filter, label, quads, run, Filtering};
 
 /// Gives a float the call that the build script writes where the original asks for an angle.
 pub(crate) trait AngleByRule {

@@ -1,6 +1,7 @@
-// oracle vectors numbers DIR, oracle vectors stages DIR: the vectors of the calls.
+// oracle vectors numbers DIR, and the same for stages and filters: the vectors of the calls.
 
 use super::Outcome;
+use oracle::vectors::filters::write_filters;
 use oracle::vectors::stages::write_stages;
 use oracle::vectors::write_numbers;
 use std::io;
@@ -18,14 +19,20 @@ fn stages(folder: &Path) -> io::Result<()> {
     Ok(())
 }
 
+fn filters(folder: &Path) -> io::Result<()> {
+    print!("{}", write_filters(folder)?);
+    Ok(())
+}
+
 pub fn run(args: &[String]) -> Outcome {
     let [which, folder] = args else {
-        return Err("vectors numbers DIR or vectors stages DIR".to_string());
+        return Err("vectors numbers DIR, vectors stages DIR or vectors filters DIR".to_string());
     };
     let written = match which.as_str() {
         "numbers" => numbers(folder.as_ref()),
         "stages" => stages(folder.as_ref()),
-        _ => return Err(format!("no vectors {which}; there are numbers and stages")),
+        "filters" => filters(folder.as_ref()),
+        _ => return Err(format!("no vectors {which}; there are numbers, stages and filters")),
     };
     written.map_err(|e| format!("{folder}: {e}"))
 }

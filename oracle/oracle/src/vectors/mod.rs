@@ -1,7 +1,11 @@
-// Vectors for the number calls and the stage calls: inputs and the answers document 01 gives.
+// Vectors for the number calls, the stage calls and the filters: inputs and the answers that
+// document 01 gives.
 
 mod angles;
 mod distances;
+pub mod filters;
+mod form;
+mod pack;
 mod roots;
 pub mod stages;
 mod write;

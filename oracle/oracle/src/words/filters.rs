@@ -12,7 +12,8 @@ fn length(frame: &Frame, a: u32, b: u32) -> f32 {
     rules::root_or_refused(xx + yy).expect("a sum of squares")
 }
 
-fn sides(frame: &Frame, quad: &Quad) -> [f32; 4] {
+/// The lengths of a quad's sides, in its order.
+pub fn sides(frame: &Frame, quad: &Quad) -> [f32; 4] {
     [0, 1, 2, 3].map(|k| length(frame, quad[k], quad[(k + 1) % 4]))
 }
 
@@ -28,7 +29,8 @@ pub fn topology(quads: &[Quad]) -> Vec<Quad> {
     kept(quads, |q| q.iter().filter(|&&c| incidence[c as usize] > 8).count() < 2)
 }
 
-fn ratio(a: f32, b: f32) -> f32 {
+/// Of two opposing sides.
+pub fn ratio(a: f32, b: f32) -> f32 {
     let (greater, lesser) = if a > b { (a, b) } else { (b, a) };
     let floor = 1e-6_f32;
     greater / if lesser < floor { floor } else { lesser }
@@ -43,7 +45,7 @@ pub fn opposing_sides(frame: &Frame, quads: &[Quad]) -> Vec<Quad> {
 }
 
 /// Place floor(n/2), counted from 0, of all sides of a group, shared ones once per quad.
-fn median(frame: &Frame, group: &[Quad]) -> f32 {
+pub fn median(frame: &Frame, group: &[Quad]) -> f32 {
     let mut all: Vec<f32> = group.iter().flat_map(|q| sides(frame, q)).collect();
     all.sort_by(f32::total_cmp);
     all[all.len() / 2]

@@ -2,7 +2,7 @@
 // can be held against the original. Nothing here looks at the original's code.
 
 mod classes;
-mod filters;
+pub mod filters;
 mod quads;
 
 pub use classes::classes;

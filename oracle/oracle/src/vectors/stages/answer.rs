@@ -3,6 +3,7 @@
 use super::{Case, Kind};
 use crate::calls;
 use crate::judge::Refusal;
+use crate::vectors::form::{counted, refused, runs};
 use frame::AxisPair;
 
 /// The result or the refusal, with the final content of the list that the call may change.
@@ -46,17 +47,6 @@ fn word(x: f32) -> u32 {
     }
 }
 
-fn refused(refusal: &Refusal) -> String {
-    format!("refused {:08X} {:08X}", refusal.row, refusal.place)
-}
-
-/// Each longest run of equal words as its length and the word.
-fn runs(list: &[u32]) -> String {
-    let runs = list.chunk_by(|a, b| a == b);
-    let shown: Vec<String> = runs.map(|run| format!("{}*{}", run.len(), run[0])).collect();
-    shown.join(" ")
-}
-
 /// The lines of an answer.
 pub fn lines(answer: &Answer) -> String {
     match answer {
@@ -70,9 +60,6 @@ pub fn lines(answer: &Answer) -> String {
             let first = result.as_ref().map_or_else(refused, |()| "done".to_string());
             format!("{first}\n{}\n", runs(list))
         }
-        Answer::Quads(result, list) => {
-            let first = result.as_ref().map_or_else(refused, |count| format!("done {count}"));
-            format!("{first}\n{}\n", runs(list))
-        }
+        Answer::Quads(result, list) => format!("{}\n{}\n", counted(result), runs(list)),
     }
 }

@@ -1,5 +1,6 @@
 // A case: one call's whole input.
 
+use crate::vectors::form::untouched;
 use frame::Frame;
 
 #[derive(Clone, Copy, Debug, PartialEq, Eq)]
@@ -26,11 +27,6 @@ pub struct Case {
     pub frame: Frame,
     pub classes: Vec<u32>,
     pub quads: Vec<u32>,
-}
-
-/// A list of words that no call writes.
-pub fn untouched(length: usize) -> Vec<u32> {
-    (0..length as u32).map(|i| 70_000 + i.min(4)).collect()
 }
 
 impl Case {

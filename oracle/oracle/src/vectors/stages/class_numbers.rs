@@ -2,8 +2,9 @@
 
 use std::collections::BTreeSet;
 
-use super::meshes::{moved, set_axes, square};
+use super::meshes::{set_axes, square};
 use super::Case;
+use crate::vectors::form::moved;
 use frame::Frame;
 use rules::{angle, distance, HALF_PI};
 

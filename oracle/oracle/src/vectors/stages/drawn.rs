@@ -1,10 +1,10 @@
 // Generated frames of every kind, sound and damaged, in both calls.
 
-use super::case::untouched;
 use super::class_lists::class_list;
 use super::Case;
 use crate::generate::{damage::damage, KINDS};
 use crate::random::Random;
+use crate::vectors::form::untouched;
 use frame::Frame;
 
 const SEED: u64 = 6;

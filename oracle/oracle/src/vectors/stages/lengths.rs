@@ -1,8 +1,8 @@
 // Row 1 of both calls: each list by itself longer and shorter, and lists that are not whole.
 
-use super::case::untouched;
 use super::meshes::{square, strip};
 use super::{Case, Kind};
+use crate::vectors::form::untouched;
 use frame::{Frame, NONE};
 
 /// Makes a list longer or shorter, and never shorter than nothing.

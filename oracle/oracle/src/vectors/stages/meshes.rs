@@ -43,8 +43,3 @@ pub fn strip(cells: u32) -> Frame {
 pub fn set_axes(frame: &mut Frame, corner: usize, axes: [f32; 2]) {
     frame.angles[2 * corner..2 * corner + 2].copy_from_slice(&axes);
 }
-
-/// The float some steps further in the order of bits.
-pub fn moved(x: f32, steps: i32) -> f32 {
-    f32::from_bits(x.to_bits().wrapping_add(steps as u32))
-}

@@ -1,8 +1,8 @@
 // Row 9: the room of the quad list, which is the number of whole records of four words.
 
-use super::case::untouched;
 use super::meshes::{square, strip};
 use super::Case;
+use crate::vectors::form::untouched;
 
 /// Every length from nothing to more than two records over, for one quad and for three.
 fn all_lengths(cases: &mut Vec<Case>) {

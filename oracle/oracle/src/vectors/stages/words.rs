@@ -1,20 +1,7 @@
 // A case as 32-bit words: its kind, then its parts.
 
 use super::{Case, Kind};
-
-/// The words of floats.
-pub fn bits(list: &[f32]) -> Vec<u32> {
-    list.iter().map(|x| x.to_bits()).collect()
-}
-
-/// Length, given, fill, then the words given. Two or more equal words at the end are a fill.
-fn add_list(words: &mut Vec<u32>, list: &[u32]) {
-    let last = list.last().copied().unwrap_or(0);
-    let run = list.iter().rev().take_while(|&&word| word == last).count();
-    let (given, fill) = if run > 1 { (list.len() - run, last) } else { (list.len(), 0) };
-    words.extend([list.len() as u32, given as u32, fill]);
-    words.extend(&list[..given]);
-}
+use crate::vectors::form::{add_list, bits};
 
 /// The lists of a case with their names, in the order of its parts.
 pub fn lists(case: &Case) -> Vec<(&'static str, Vec<u32>)> {
@@ -58,10 +45,4 @@ pub fn words(case: &Case) -> Vec<u32> {
         add_list(&mut words, &list);
     }
     words
-}
-
-/// The words as text: eight digits each, a blank between, a line feed after the last.
-pub fn text(words: &[u32]) -> String {
-    let digits: Vec<String> = words.iter().map(|word| format!("{word:08X}")).collect();
-    digits.join(" ") + "\n"
 }
