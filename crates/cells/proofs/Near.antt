@@ -14,6 +14,7 @@ use Rattle.cells.specs.Groups.Linked.{same, on}
 use Rattle.cells.specs.Forest.{Joined, Alone, Flat, Classes}
 use Rattle.cells.specs.Table.{tableAt}
 use Rattle.cells.specs.Sides.{keyAt, numberAt, Near, Ready, groupsOf, United, Named}
+use Rattle.cells.proofs.Groups.{groups-same}
 use Rattle.cells.proofs.Part.{groups-length, returned-groups, returned-kept, returned-at}
 use Rattle.cells.proofs.Classes.{classes-alone, classes-more, classes-same, classes-groups}
 
@@ -125,13 +126,8 @@ named-flat {n} {m} {k} {xs} {ys} p r l u f =
     let room : 2 * n ≤ length ys = omega (arith, r .room, u .kept .len) in
     let flat : Flat (groupsOf n ys) n p = rw (u .classes .len) at f in
     let len : length p ≡ n = flat .refines .len ∙ u .classes .len in
-    let g = classes-groups (u .classes) flat in
     let is : (q : ℕ) → q < n → getD (putMid n (2 * n - n) ys p) (n + q) 0 ≡ getD p q 0 = returned-at n ys p room len in
     record {
       kept = kept-trans (u .kept) (returned-kept n ys p room len);
-      groups = record {
-        linked = λ x h. rw (is x h) (g .linked x h);
-        together = λ x y e. let w = near-within r l e in is x (w .0) ∙ g .together x y e ∙ sym (is y (w .1));
-        lowest = λ x h. rw (is x h) (g .lowest x h);
-      };
+      groups = groups-same (λ x y e. near-within r l e) (λ q h. sym (is q h)) (classes-groups (u .classes) flat);
     }

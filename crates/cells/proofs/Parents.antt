@@ -1,7 +1,7 @@
 -- Laws of parent lists: moving a pointer up keeps the classes and the roots, hanging one root on another joins two classes, and what
 -- the loops of the forest know after each turn. Assumes nothing.
 use mathlib.Core.Path.{_≡_, refl, sym, ap, _∙_, subst}
-use mathlib.Core.Logic.{_⊎_, inl, inr, ⊎-elim}
+use mathlib.Core.Logic.{inl, inr, ⊎-elim}
 use mathlib.Core.List.{List}
 use Prim.Native.Nat.{ℕ, _+_, _≤_, _<_}
 use native.Mathlib.Omega.{arith}
@@ -9,18 +9,11 @@ use native.Mathlib.Decide.{ℕ-discrete}
 use native.Mathlib.Nat.{lt-of-le-of-lt, eq-or-lt-of-le}
 use lib.ListN.{length, getD, set, length-set}
 use lib.Seq.{getD-set-same, getD-set-other}
+use Rattle.words.proofs.Regions.{set-cases}
 use Rattle.cells.specs.Groups.{Linked}
 use Rattle.cells.specs.Groups.Linked.{same, on, back}
 use Rattle.cells.specs.Forest.{Low, Ptr, PtrOr, Respects, Refines, Found, Joined, Alone, Flat}
 use Rattle.cells.proofs.Links.{joined, turned, fold, kept}
-
--- what stands at j after a store at i, by cases
-set-cases : (P : ℕ → Type 0) (l : List ℕ) (i v j : ℕ) → i < length l → (j ≡ i → P v) → ((j ≡ i → ⊥) → P (getD l j 0)) → P (getD (set l i v) j 0)
-set-cases P l i v j h a b = go (ℕ-discrete j i)
-  where
-    go : Dec (j ≡ i) → P (getD (set l i v) j 0)
-    go (yes e) = rw (e, getD-set-same) (a e)
-    go (no n) = rw getD-set-other (b n)
 
 pub refines-refl : (p : List ℕ) → Low p → Refines p p
 refines-refl p l = record {

@@ -7,14 +7,15 @@ use Prim.Native.Nat.{ℕ, zero, suc, _+_, _*_, _-_, _/_, _≤_, _<_}
 use native.Mathlib.Nat.{lt-of-mul-lt-mul-left}
 use native.Mathlib.Decide.{decLe}
 use native.Mathlib.Omega.{arith}
-use lib.ListN.{length, getD}
+use lib.ListN.{length}
 use Rattle.cells.specs.Cells.{cell, Side, Touch, Has, Neighbours}
 use Rattle.cells.specs.Cells.Touch.{alike, opposite}
 use Rattle.cells.specs.Groups.{Linked}
 use Rattle.cells.specs.Groups.Linked.{same, on}
-use Rattle.cells.specs.Table.{unmarked, groupsAt, groupsEnd, Sound, Grouped}
+use Rattle.cells.specs.Table.{unmarked, groupsEnd, Sound, Grouped}
 use Rattle.cells.specs.Sides.{keyAt, numberAt, sideKey, Stands, Listed, Near, Ready, Named}
-use Rattle.cells.proofs.Links.{turned, fold, kept}
+use Rattle.cells.proofs.Links.{turned}
+use Rattle.cells.proofs.Groups.{same-groups}
 use Rattle.cells.proofs.Places.{cell-before}
 use Rattle.cells.proofs.Keys.{equal-ends, turned-ends, proper-key}
 use Rattle.cells.proofs.InOrder.{corner-small}
@@ -115,10 +116,6 @@ module _ (size : ℕ) (cells : List ℕ) (n : ℕ) (xs ys : List ℕ) (S : Sound
   grouped zs N = record {
     len = N .kept .len ∙ L .kept .len;
     marks = λ k h. N .kept .rest k (λ j l e. omega arith) ∙ L .kept .rest k (λ j l e. omega arith);
-    groups = record {
-      linked = λ x h. fold (λ u v e. on same (near-neighbours u v e)) (N .groups .linked x h);
-      together = λ x y e. kept (λ (q : ℕ). getD zs (groupsAt n + q) 0) (N .groups .together) (neighbours-near x y e);
-      lowest = N .groups .lowest;
-    };
+    groups = same-groups (λ x y e. on same (near-neighbours x y e)) neighbours-near (N .groups);
     rest = λ k h. N .kept .rest k (λ j l e. omega arith) ∙ L .kept .rest k (λ j l e. omega arith);
   }

@@ -2,7 +2,7 @@
 use mathlib.Core.Path.{_≡_}
 use Prim.Native.Nat.{ℕ, _≤_, _<_}
 
--- y can be reached from x by steps of E, each taken either way
+-- steps of E, each taken either way, lead from x to y
 pub data Linked (E : ℕ → ℕ → Type 0) : ℕ → ℕ → Type 0 where
   same : {x : ℕ} → Linked E x x
   on : {x y z : ℕ} → Linked E x y → E y z → Linked E x z

@@ -15,8 +15,8 @@ use Rattle.words.proofs.Listing.{getD-listing}
 use Rattle.measure.proofs.LengthWords.{word-back}
 use Rattle.mesh.specs.Cells.{some}
 use Rattle.cells.specs.Cells.{Neighbours}
-use Rattle.cells.specs.Groups.{Groups}
 use Rattle.cells.specs.Table.{unmarked, groupsAt}
+use Rattle.cells.specs.Groups.Linked.{same, on}
 use Rattle.cells.proofs.Groups.{same-groups}
 use Rattle.filter.specs.declared.FilterParams.{FilterParams}
 use Rattle.filter.specs.Input.{Input, quadCount, sideLength}
@@ -24,7 +24,7 @@ use Rattle.filter.specs.Layout.{lengthsAt, mediansAt}
 use Rattle.filter.specs.Topology.{crowded}
 use Rattle.filter.specs.Opposing.{uneven, skewed}
 use Rattle.filter.specs.Median.{Median}
-use Rattle.filter.specs.Size.{isSkipped, offSide, offSize, sidesTo}
+use Rattle.filter.specs.Size.{isSkipped, offSize, sidesTo}
 use Rattle.filter.specs.Marks.{markBy, left, Joined}
 use Rattle.filter.specs.Marks.Marked.{skipped, sized}
 use Rattle.filter.specs.Steps.{Sound, sideWord, lengthIn, skewMark, medianIn, sizeMark, lowerIn, MiddleWord, Weighed, Sized, Judged}
@@ -161,7 +161,7 @@ module _ (i : Input) (sound : Sound i) (w0 w1 w2 w3 : List ℕ)
     by-weight e = record {
       len = third .kept .len ∙ weight .len ∙ second .kept .len ∙ lengths .kept .len ∙ len1;
       marks = listing n (λ (q : ℕ). markBy (crowded (i .quads) q) (skewed i q) (offSize (i .params) (median (group q)) (sideLength i q)));
-      marked = sized e group (same-groups there back (weight .groups)) median (λ q h l. middle q h);
+      marked = sized e group (same-groups (λ p q r. on same (there p q r)) (λ p q r. on same (back p q r)) (weight .groups)) median (λ q h l. middle q h);
       held = λ q h. marks4 q h ∙ sym (getD-listing n (λ (q : ℕ). markBy (crowded (i .quads) q) (skewed i q) (offSize (i .params) (median (group q)) (sideLength i q))) q 0 h);
     }
 

@@ -14,13 +14,6 @@ use Rattle.quads.specs.Call.{wordsOf}
 use Rattle.quads.proofs.Made.{Held, held-more, held-length, held-by}
 use Rattle.filter.specs.Marks.{quadAt, keptTo}
 
-pub count-le : (mark : ℕ → ℕ) (n : ℕ) → equal mark n 0 ≤ n
-count-le mark = rec-on (λ n. equal mark n 0 ≤ n) (omega (arith, equal-zero mark 0)) (λ n ih. go n ih (ℕ-discrete (mark n) 0))
-  where
-    go : (n : ℕ) → equal mark n 0 ≤ n → Dec (mark n ≡ 0) → equal mark (n + 1) 0 ≤ n + 1
-    go n ih (yes e) = omega (arith, equal-yes mark n 0 e)
-    go n ih (no d) = omega (arith, equal-no mark n 0 d)
-
 module _ (quads : List ℕ) (mark : ℕ → ℕ) where
   pub kept-none : keptTo quads mark 0 ≡ []
   unfolding keptTo

@@ -20,3 +20,5 @@ pub mod Picked
 pub mod Determined
 pub mod Examples
 pub mod Worked
+pub mod Single
+pub mod Row

@@ -1,7 +1,7 @@
 -- The middle of a run of records in order of group and length has the median length of its group, by counting: no more of the group
 -- are shorter than stand before it in the run, and more than that are not longer. Assumes nothing.
 use mathlib.Core.Path.{_≡_, refl, sym, ap, _∙_}
-use mathlib.Core.Bool.{Bool, true, false, _&&_}
+use mathlib.Core.Bool.{_&&_, and-true}
 use Prim.Native.Nat.{ℕ, zero, suc, _+_, _*_, _-_, _/_, _≤_, _<_}
 use native.Mathlib.Decide.{ℕ-discrete, decLt}
 use native.Mathlib.Omega.{arith}
@@ -29,12 +29,7 @@ one-within group len key g b is fits small = go (decLt group g) (ℕ-discrete gr
 
 -- every length is below 2^32
 one-all : (group len g : ℕ) → len < 4294967296 → one (eqb group g && ltb len 4294967296) ≡ one (eqb group g)
-unfolding one
-one-all group len g fits = rw (lt-ltb len 4294967296 fits) (go (eqb group g))
-  where
-    go : (t : Bool) → one (t && true) ≡ one t
-    go true = refl
-    go false = refl
+one-all group len g fits = rw (lt-ltb len 4294967296 fits) (ap one (and-true (eqb group g)))
 
 lower-all : (group len : ℕ → ℕ) (g m : ℕ) → ((e : ℕ) → e < m → len e < 4294967296) → lowerIn group len g m 4294967296 ≡ equal group m g
 unfolding equal lowerIn

@@ -10,6 +10,7 @@ use Rattle.refusal.specs.declared.Gate.the-variants.{Open, Shut}
 use Rattle.refusal.specs.declared.Refusal.{Refusal}
 use Rattle.refusal.specs.declared.Refusal.the-variants.{RecordsShort}
 use Rattle.words.specs.Sorting.{equal}
+use Rattle.words.proofs.Rank.{equal-le}
 use Rattle.mesh.specs.Lists.{quadWords}
 use Rattle.quads.specs.Call.{roomRow, wordsOf}
 use Rattle.filter.specs.declared.Filtered.the-variants.{Done, Refused}
@@ -18,7 +19,7 @@ use Rattle.filter.specs.Marks.{keptTo, keptOf}
 use Rattle.filter.specs.Call.{entryGate, Outcome, outcomeBy, Allowed}
 use Rattle.filter.specs.Call.Allowed.{refused as by-rows, judged as by-marks}
 use Rattle.filter.specs.Steps.{Sound, Judged}
-use Rattle.filter.proofs.Kept.{kept-count, kept-same, count-le}
+use Rattle.filter.proofs.Kept.{kept-count, kept-same}
 
 -- the marks have room in a workspace that is long enough
 pub front : (i : Input) (work mid : List ℕ) → quadWords (quadCount i) (length (i .xs)) ≤ length work → Judged i work mid → quadCount i ≤ length mid
@@ -26,7 +27,7 @@ front i work mid h j = omega (arith, j .len)
 
 -- the count is a word, and where it is within the room, so are the quads
 pub few : (i : Input) (mark : ℕ → ℕ) (n : ℕ) → Sound i → n ≡ equal mark (quadCount i) 0 → n < 4294967296
-few i mark n s counted = omega (arith, count-le mark (quadCount i), s .few)
+few i mark n s counted = omega (arith, equal-le mark 0 (quadCount i), s .few)
 
 pub room : (quads : List ℕ) (mark : ℕ → ℕ) (m n words : ℕ) → n ≡ equal mark m 0 → n ≤ words / 4 → 4 * length (keptTo quads mark m) ≤ words
 room quads mark m n words counted h = omega (arith, kept-count quads mark m)

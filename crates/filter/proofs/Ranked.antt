@@ -1,7 +1,7 @@
 -- Medians by rank: a list of lengths has one median, and the median of a group's words is the word of the median of its sides, since
 -- lengths stand in the order of their words. Assumes nothing.
 use mathlib.Core.Path.{_≡_, refl, sym, ap, _∙_, subst}
-use mathlib.Core.Bool.{Bool, true, false, cond, not, _&&_}
+use mathlib.Core.Bool.{Bool, true, false, cond, not, _&&_, and-true}
 use mathlib.Core.List.{List, [], _∷_, _++_}
 use Prim.Native.Nat.{ℕ, zero, suc, _+_, _*_, _/_, _%_, _≤_, _<_}
 use native.Mathlib.Decide.{ℕ-discrete}
@@ -141,10 +141,6 @@ not-above a b = go (ltb b a) refl
     go true e = rw (e, le-ltb a (b + 1) (omega (arith, ltb-true b a e)))
     go false e = rw (e, lt-ltb a (b + 1) (omega (arith, ltb-false b a e)))
 
-and-true : (t : Bool) → t ≡ (t && true)
-and-true true = refl
-and-true false = refl
-
 -- ---- x stands in a list
 
 abbrev Held : List Float → Float → Type 0
@@ -240,7 +236,7 @@ module _ (i : Input) (group : ℕ → ℕ) (g : ℕ) where
       ∙ sym (equal-tally (λ (e : ℕ). group (e / 4)) g (4 * n))
     where
       same : (q k : ℕ) → k < 4 → eqb (group ((4 * q + k) / 4)) g ≡ (eqb (group q) g && true)
-      same q k h = rw (group-at q k h) (and-true (eqb (group q) g))
+      same q k h = rw (group-at q k h) (sym (and-true (eqb (group q) g)))
 
   -- ---- a side of the group stands among them
 

@@ -5,23 +5,13 @@ use Prim.Native.Nat.{ℕ, _+_, _*_, _/_, _≤_, _<_}
 use native.Mathlib.Omega.{arith}
 use lib.ListN.{length, getD, set, length-set}
 use lib.Seq.{getD-set-other}
-use Rattle.words.specs.Order.{wordOf}
-use Rattle.words.specs.Regions.{Kept}
 use Rattle.words.proofs.Regions.{set-cases, kept-refl, kept-set}
 use Rattle.cells.specs.Table.{groupsAt, tableAt}
 use Rattle.filter.specs.Layout.{lengthsAt, mediansAt}
 use Rattle.filter.specs.Steps.{Recorded}
 
-pub record Begun (n m : ℕ) (xs ys : List ℕ) : Type 0 where
-  pub kept : Kept xs ys (tableAt n) (8 * n)
-  pub lengths : (e : ℕ) → e < m → wordOf ys (tableAt n) 0 e ≡ getD xs (lengthsAt n + e) 0
-  pub groups : (e : ℕ) → e < m → wordOf ys (tableAt n) 1 e ≡ getD xs (groupsAt n + e / 4) 0
-
-pub begun-none : (n : ℕ) (xs : List ℕ) → Begun n 0 xs xs
-begun-none n xs = record { kept = kept-refl xs (tableAt n) (8 * n); lengths = λ e h. absurd (omega arith); groups = λ e h. absurd (omega arith) }
-
-pub begun-all : {n : ℕ} {xs ys : List ℕ} → Begun n (4 * n) xs ys → Recorded n xs ys
-begun-all b = record { kept = b .kept; lengths = b .lengths; groups = b .groups }
+pub recorded-none : (n : ℕ) (xs : List ℕ) → Recorded n 0 xs xs
+recorded-none n xs = record { kept = kept-refl xs (tableAt n) (8 * n); lengths = λ e h. absurd (omega arith); groups = λ e h. absurd (omega arith) }
 
 -- ---- one more
 
@@ -33,16 +23,16 @@ stored-cases P ys at v w k h first second other =
     set-cases P (set ys at v) (at + 1) w k (rw length-set h) second (λ s. set-cases P ys at v k (omega arith) first (λ f. other f s))
 
 -- what is copied stands outside the table, so it is as it was
-copied-length : {n m : ℕ} {xs ys : List ℕ} → Begun n m xs ys → m < 4 * n → getD ys (lengthsAt n + m) 0 ≡ getD xs (lengthsAt n + m) 0
+copied-length : {n m : ℕ} {xs ys : List ℕ} → Recorded n m xs ys → m < 4 * n → getD ys (lengthsAt n + m) 0 ≡ getD xs (lengthsAt n + m) 0
 copied-length {n} {m} b h = b .kept .rest (lengthsAt n + m) (λ j l e. omega arith)
 
-copied-group : {n m : ℕ} {xs ys : List ℕ} (v : ℕ) → Begun n m xs ys → m < 4 * n → getD (set ys (tableAt n + 2 * m) v) (groupsAt n + m / 4) 0 ≡ getD xs (groupsAt n + m / 4) 0
+copied-group : {n m : ℕ} {xs ys : List ℕ} (v : ℕ) → Recorded n m xs ys → m < 4 * n → getD (set ys (tableAt n + 2 * m) v) (groupsAt n + m / 4) 0 ≡ getD xs (groupsAt n + m / 4) 0
 copied-group {n} {m} {xs} {ys} v b h =
     getD-set-other ys (tableAt n + 2 * m) (groupsAt n + m / 4) v 0 (λ e. omega arith) ∙ b .kept .rest (groupsAt n + m / 4) (λ j l e. omega arith)
 
-pub begun-more : {n m : ℕ} {xs ys : List ℕ} → Begun n m xs ys → m < 4 * n → mediansAt n ≤ length xs
-    → Begun n (m + 1) xs (set (set ys (tableAt n + 2 * m) (getD ys (lengthsAt n + m) 0)) (tableAt n + 2 * m + 1) (getD (set ys (tableAt n + 2 * m) (getD ys (lengthsAt n + m) 0)) (groupsAt n + m / 4) 0))
-begun-more {n} {m} {xs} {ys} b h room =
+pub recorded-more : {n m : ℕ} {xs ys : List ℕ} → Recorded n m xs ys → m < 4 * n → mediansAt n ≤ length xs
+    → Recorded n (m + 1) xs (set (set ys (tableAt n + 2 * m) (getD ys (lengthsAt n + m) 0)) (tableAt n + 2 * m + 1) (getD (set ys (tableAt n + 2 * m) (getD ys (lengthsAt n + m) 0)) (groupsAt n + m / 4) 0))
+recorded-more {n} {m} {xs} {ys} b h room =
     let at : ℕ = tableAt n + 2 * m in
     let v : ℕ = getD ys (lengthsAt n + m) 0 in
     let w : ℕ = getD (set ys at v) (groupsAt n + m / 4) 0 in

@@ -8,21 +8,14 @@ use lib.ListN.{length, getD}
 use Rattle.words.specs.Regions.{Outside}
 use Rattle.words.specs.Order.{wordOf, Ordered, groupedOf}
 use Rattle.words.proofs.Cuts.{ascends}
-use Rattle.cells.specs.Groups.{Groups}
+use Rattle.cells.proofs.Groups.{groups-same}
+use Rattle.mesh.specs.Lists.{mostQuads}
 use Rattle.cells.specs.Table.{groupsAt, tableAt, Grouped}
-use Rattle.filter.specs.Layout.{lengthsAt, mediansAt}
+use Rattle.filter.specs.Layout.{spareAt, lengthsAt, mediansAt}
 use Rattle.filter.specs.Steps.{Recorded, Rising, Centred, Middle, MiddleWord, Weighed}
 use Rattle.filter.proofs.Middle.{keyed, middle-word}
 
--- groups are by the numbers below n
-groups-same : {E : ℕ → ℕ → Type 0} {n : ℕ} {g h : ℕ → ℕ} → ((x y : ℕ) → E x y → (x < n) × (y < n)) → ((x : ℕ) → x < n → g x ≡ h x) → Groups E n g → Groups E n h
-groups-same {E} {n} {g} {h} inside same G = record {
-  linked = λ x l. rw (← same x l) (G .linked x l);
-  together = λ x y e. sym (same x (inside x y e .0)) ∙ G .together x y e ∙ same y (inside x y e .1);
-  lowest = λ x l. rw (← same x l) (G .lowest x l);
-}
-
-module _ (quads : List ℕ) (n : ℕ) (xs gs rs os : List ℕ) (few : n ≤ 4096) (grouped : Grouped 4 quads n xs gs) (recorded : Recorded n gs rs) (ordered : Ordered (groupedOf rs (tableAt n)) rs os (tableAt n) (10 * n) (4 * n)) (fits : (k : ℕ) → getD rs k 0 < 4294967296) where
+module _ (quads : List ℕ) (n : ℕ) (xs gs rs os : List ℕ) (few : n ≤ mostQuads) (grouped : Grouped 4 quads n xs gs) (recorded : Recorded n (4 * n) gs rs) (ordered : Ordered (groupedOf rs (tableAt n)) rs os (tableAt n) (spareAt n) (4 * n)) (fits : (k : ℕ) → getD rs k 0 < 4294967296) where
   -- record e is of the group of its quad, which is below n
   group-small : (e : ℕ) → e < 4 * n → getD gs (groupsAt n + e / 4) 0 < n
   group-small e h = omega (arith, grouped .groups .lowest (e / 4) (omega arith))

@@ -31,4 +31,9 @@ worked =
       size-no-least = refl;
       size-no-greatest = refl;
       skipped = (refl, refl, refl);
+      size-infinite-least = refl;
+      size-least-median-zero = refl;
+      size-negative-greatest = refl;
+      size-minus-infinite = (refl, refl);
+      ratio-infinite = (refl, refl);
     }

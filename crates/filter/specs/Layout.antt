@@ -2,6 +2,10 @@
 -- sides by their bits, the medians by group, and the incidence of each corner.
 use Prim.Native.Nat.{ℕ, _*_}
 
+-- room for the ordering of 4·n records that stand at `tableAt`
+abbrev pub spareAt : ℕ → ℕ
+spareAt n = 10 * n
+
 abbrev pub lengthsAt : ℕ → ℕ
 lengthsAt n = 18 * n
 

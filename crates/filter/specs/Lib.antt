@@ -10,3 +10,5 @@ pub mod Steps
 pub mod Examples
 pub mod Worked
 pub mod Kept
+pub mod Single
+pub mod Row

@@ -8,7 +8,7 @@ use lib.Dec.{eqb}
 use lib.Ieee.{Float}
 use lib.ListN.{getD}
 use Rattle.words.specs.Listing.{listing}
-use Rattle.cells.specs.Cells.{cell, Neighbours}
+use Rattle.cells.specs.Cells.{Neighbours}
 use Rattle.cells.specs.Groups.{Groups}
 use Rattle.quads.specs.declared.Quad.{Quad}
 use Rattle.filter.specs.Input.{Input, quadCount, sideLength}

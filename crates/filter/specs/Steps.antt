@@ -1,6 +1,6 @@
 -- What the filters' routines leave in the workspace, word by word; proofs/ shows that the marks at the end are those of Marks.
 use mathlib.Core.Path.{_≡_}
-use mathlib.Core.Bool.{Bool, true, false, cond, _&&_}
+use mathlib.Core.Bool.{true, false, cond, _&&_}
 use mathlib.Core.List.{List}
 use Prim.Native.Nat.{ℕ, zero, suc, _+_, _*_, _-_, _/_, _%_, _≤_, _<_}
 use lib.Dec.{eqb, ltb}
@@ -51,11 +51,11 @@ medianIn work n q = Ieee.ofBits binary32 (getD work (mediansAt n + getD work (gr
 unfoldable pub sizeMark : FilterParams → List ℕ → ℕ → ℕ → ℕ
 sizeMark p work n q = cond (eqb (getD work q 0) 0) (cond (offSize p (medianIn work n q) (lengthIn work n q)) 3 0) (getD work q 0)
 
--- a record for every side: its length, and the group of its quad
-pub record Recorded (n : ℕ) (xs ys : List ℕ) : Type 0 where
+-- a record for each of the first m sides: its length, and the group of its quad
+pub record Recorded (n m : ℕ) (xs ys : List ℕ) : Type 0 where
   pub kept : Kept xs ys (tableAt n) (8 * n)
-  pub lengths : (e : ℕ) → e < 4 * n → wordOf ys (tableAt n) 0 e ≡ getD xs (lengthsAt n + e) 0
-  pub groups : (e : ℕ) → e < 4 * n → wordOf ys (tableAt n) 1 e ≡ getD xs (groupsAt n + e / 4) 0
+  pub lengths : (e : ℕ) → e < m → wordOf ys (tableAt n) 0 e ≡ getD xs (lengthsAt n + e) 0
+  pub groups : (e : ℕ) → e < m → wordOf ys (tableAt n) 1 e ≡ getD xs (groupsAt n + e / 4) 0
 
 -- of m places with groups, those from s up to e are all that have one group
 pub record Run (group : ℕ → ℕ) (m s e : ℕ) : Type 0 where

@@ -53,3 +53,9 @@ pub record Worked : Type 0 where
   pub size-no-least : offSize (sizes (bits 0) (fraction 2 1)) (fraction 2 1) (sides (bits 0) (fraction 2 1) (bits 0) (fraction 2 1)) ≡ false
   pub size-no-greatest : offSize (sizes (fraction 1 2) (bits 0x7F800000)) (fraction 2 1) (sides (fraction 9 1) (fraction 2 1) (fraction 9 1) (fraction 2 1)) ≡ false
   pub skipped : (isSkipped (sizes (bits 0) (bits 0x7F800000)) ≡ true) × (isSkipped (sizes (bits 0) (fraction 2 1)) ≡ false) × (isSkipped (sizes (fraction 1 2) (bits 0x7F800000)) ≡ false)
+  -- an infinite least drops every quad of a median above 0; a greatest below 0 does too; one of minus infinity is inactive
+  pub size-infinite-least : offSize (sizes (bits 0x7F800000) (bits 0x7F800000)) (fraction 2 1) (sides (fraction 9 1) (fraction 9 1) (fraction 9 1) (fraction 9 1)) ≡ true
+  pub size-least-median-zero : offSize (sizes (bits 0x7F800000) (bits 0x7F800000)) (bits 0) (sides (fraction 9 1) (bits 0) (bits 0) (bits 0)) ≡ false
+  pub size-negative-greatest : offSize (sizes (bits 0) (bits 0xBF800000)) (fraction 2 1) (sides (fraction 2 1) (fraction 2 1) (fraction 2 1) (fraction 2 1)) ≡ true
+  pub size-minus-infinite : (isSkipped (sizes (bits 0x80000000) (bits 0xFF800000)) ≡ true) × (isSkipped (sizes (bits 0xFF800000) (bits 0xFF800000)) ≡ true)
+  pub ratio-infinite : (uneven (bits 0x7F800000) (sides (fraction 2 1) (bits 0) (bits 0) (fraction 1 1)) ≡ false) × (uneven (bits 0xFF800000) (sides (fraction 1 1) (fraction 1 1) (fraction 1 1) (fraction 1 1)) ≡ true)

@@ -1,7 +1,7 @@
 // The stage without its checks, for a frame whose rows have let it through: the marks, their count, and the quads kept.
 ghost use mathlib.Core.Path.{_≡_};
 ghost use mathlib.Core.List.{_++_};
-ghost use Prim.Native.Nat.{ℕ, _+_, _*_, _/_, _≤_, _<_};
+ghost use Prim.Native.Nat.{ℕ, _+_, _*_, _/_, _≤_};
 ghost use lib.ListN.{length, getD, drop};
 ghost use Rattle.words.specs.Sorting.{equal};
 ghost use Rattle.quads.specs.Call.{wordsOf};

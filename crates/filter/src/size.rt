@@ -6,7 +6,7 @@ ghost use Rattle.words.specs.Order.{wordOf};
 ghost use Rattle.words.specs.Regions.{Filled};
 ghost use Rattle.cells.specs.Table.{Sound, groupsAt, tableAt};
 ghost use Rattle.mesh.specs.Lists.{mostQuads};
-ghost use Rattle.filter.specs.Layout.{lengthsAt, mediansAt};
+ghost use Rattle.filter.specs.Layout.{spareAt, lengthsAt, mediansAt};
 ghost use Rattle.filter.specs.Size.{isSkipped, offSide, offSize};
 ghost use Rattle.filter.specs.Steps.{lengthIn, sizeMark, Recorded, Rising, Run, Centred, Weighed, Sized};
 use crate::FilterParams;
@@ -24,7 +24,7 @@ const MEDIANS: usize = 22;
 // A record for every side: its length, and the group of its quad.
 fn write_records(work: &mut [u32], n: usize)
     requires { ⌜ mediansAt n ≤ length (now work) ⌝ }
-    ensures { λ _. ⌜ Recorded n (now (work .entry)) (now (work .exit)) ⌝ }
+    ensures { λ _. ⌜ Recorded n (4 * n) (now (work .entry)) (now (work .exit)) ⌝ }
 {
     let mut e = 0;
     while e < 4 * n {
@@ -36,7 +36,7 @@ fn write_records(work: &mut [u32], n: usize)
 
 // Where the run of one group that begins at record s ends, of n quads' records in order.
 fn run_end(work: &[u32], n: usize, s: usize) -> usize
-    requires { ⌜ (s < 4 * n) × (10 * n ≤ length (now work)) ⌝ }
+    requires { ⌜ (s < 4 * n) × (spareAt n ≤ length (now work)) ⌝ }
     requires { ⌜ Rising n (now work) ⌝ }
     requires { ⌜ ((k : ℕ) → k < s → wordOf (now work) (tableAt n) 1 k < wordOf (now work) (tableAt n) 1 s) ⌝ }
     ensures { λ r. ⌜ Run (wordOf (now (work .entry)) (tableAt n) 1) (4 * n) s r ⌝ }

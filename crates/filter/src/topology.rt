@@ -5,8 +5,9 @@ ghost use lib.Dec.{ltb};
 ghost use lib.ListN.{length, getD};
 ghost use Rattle.words.specs.Regions.{Filled};
 ghost use Rattle.words.specs.Sorting.{one};
+ghost use Rattle.mesh.specs.Lists.{mostQuads};
 ghost use Rattle.filter.specs.Layout.{incidenceAt};
-ghost use Rattle.filter.specs.Topology.{incidence, illegal, crowded};
+ghost use Rattle.filter.specs.Topology.{incidence, crowded};
 use words::inner::fill_zero;
 use words::inner::wide;
 
@@ -15,7 +16,7 @@ const INCIDENCE: usize = 23;
 
 // Adds 2 to a corner's word at each place that names it.
 fn tally_corners(quads: &[u32], work: &mut [u32], at: usize, corners: usize)
-    requires { ⌜ (at + corners ≤ length (now work)) × (length (now quads) ≤ 16384) × (corners ≤ 4096) ⌝ }
+    requires { ⌜ (at + corners ≤ length (now work)) × (length (now quads) ≤ 4 * mostQuads) ⌝ }
     requires { ⌜ ((k : ℕ) → k < length (now quads) → getD (now quads) k 0 < corners) ⌝ }
     requires { ⌜ ((c : ℕ) → c < corners → getD (now work) (at + c) 0 ≡ 0) ⌝ }
     ensures { λ _. ⌜ Filled (now (work .entry)) (now (work .exit)) at corners corners (incidence (now (quads .entry))) ⌝ }
@@ -30,7 +31,7 @@ fn tally_corners(quads: &[u32], work: &mut [u32], at: usize, corners: usize)
 
 // The incidence of each corner, in the words from `at` on.
 fn count_incidence(quads: &[u32], work: &mut [u32], at: usize, corners: usize)
-    requires { ⌜ (at + corners ≤ length (now work)) × (length (now quads) ≤ 16384) × (corners ≤ 4096) ⌝ }
+    requires { ⌜ (at + corners ≤ length (now work)) × (length (now quads) ≤ 4 * mostQuads) ⌝ }
     requires { ⌜ ((k : ℕ) → k < length (now quads) → getD (now quads) k 0 < corners) ⌝ }
     ensures { λ _. ⌜ Filled (now (work .entry)) (now (work .exit)) at corners corners (incidence (now (quads .entry))) ⌝ }
 {
@@ -75,7 +76,7 @@ fn write_crowds(quads: &[u32], work: &mut [u32], at: usize, corners: usize)
 
 // The marks of the first rule, at the front of the workspace.
 pub(crate) fn mark_crowded(quads: &[u32], work: &mut [u32], corners: usize)
-    requires { ⌜ (incidenceAt (length (now quads) / 4) + corners ≤ length (now work)) × (length (now quads) ≤ 16384) × (corners ≤ 4096) ⌝ }
+    requires { ⌜ (incidenceAt (length (now quads) / 4) + corners ≤ length (now work)) × (length (now quads) ≤ 4 * mostQuads) ⌝ }
     requires { ⌜ ((k : ℕ) → k < length (now quads) → getD (now quads) k 0 < corners) ⌝ }
     ensures { λ _. ⌜ (length (now (work .exit)) ≡ length (now (work .entry))) × ((q : ℕ) → q < length (now (quads .entry)) / 4 → getD (now (work .exit)) q 0 ≡ one (crowded (now (quads .entry)) q)) ⌝ }
 {

@@ -9,7 +9,7 @@ use borrow.Author.Tests.{lt-ltb, le-ltb}
 use lib.Dec.{ltb}
 use lib.ListN.{length, getD}
 use Rattle.words.specs.Sorting.{one, equal, below}
-use Rattle.words.proofs.Rank.{equal-yes, equal-mono, below-step, below-mono, below-all, bound, bound-above}
+use Rattle.words.proofs.Rank.{equal-yes, equal-mono, below-step, below-le}
 use Rattle.mesh.specs.HalfEdge.{triangleOf}
 use Rattle.mesh.proofs.Open.{twin-sound}
 use Rattle.quads.specs.declared.Found.{Found}
@@ -29,12 +29,6 @@ use Rattle.quads.proofs.Made.{count-is}
 two-equal : (key : ℕ → ℕ) (n i j v : ℕ) → i < j → j < n → key i ≡ v → key j ≡ v → 2 ≤ equal key n v
 two-equal key n i j v h l a b =
     omega (arith, equal-yes key i v a, equal-mono key v (i + 1) j (omega arith), equal-yes key j v b, equal-mono key v (j + 1) n (omega arith))
-
--- of n places no more than n have a lower key
-below-le : (key : ℕ → ℕ) (n v : ℕ) → below key n v ≤ n
-below-le key n v =
-    let top = v + bound key n in
-    omega (arith, below-mono key n v top (omega arith), below-all key top n (λ k l. omega (arith, bound-above key n k l)))
 
 -- ---- what a triangle is given: the lower of itself and the one across its only diagonal
 

@@ -1,17 +1,18 @@
 -- `write_lengths` fills the region of the lengths, side by side.
 use mathlib.Core.Path.{_≡_}
-use Prim.Native.Nat.{_*_, _/_, _-_, _≤_}
+use Prim.Native.Nat.{_/_, _-_, _≤_}
 use native.Mathlib.Omega.{arith}
 use lib.ListN.{length}
 use Rattle.words.specs.Regions.{Filled}
 use Rattle.words.proofs.Regions.{filled-none, filled-more}
+use Rattle.filter.specs.Layout.{lengthsAt}
 use Rattle.filter.specs.Steps.{sideWord}
 use borrow.Author.Needs.{needs}
 use Rattle.filter.proofs.lengths.write_lengths.Statement.{statement}
 use Rattle.filter.proofs.lengths.write_lengths.Tie as tie
 
 abbrev Inv-loop : tie.InvT-loop
-Inv-loop x y quads params work₀ at e₀ work e = (e ≤ length quads) × (at ≡ 18 * (length quads / 4)) × Filled work₀ work at (length quads) e (sideWord (record { xs = x; ys = y; quads = quads; params = params }))
+Inv-loop x y quads params work₀ at e₀ work e = (e ≤ length quads) × (at ≡ lengthsAt (length quads / 4)) × Filled work₀ work at (length quads) e (sideWord (record { xs = x; ys = y; quads = quads; params = params }))
 
 abbrev μ-loop : tie.MeasureT-loop
 μ-loop x y quads params work₀ at e₀ work e = length quads - e

@@ -3,19 +3,20 @@ use mathlib.Core.Path.{_≡_}
 use Prim.Native.Nat.{_*_, _-_, _≤_}
 use native.Mathlib.Omega.{arith}
 use lib.ListN.{length-set}
-use Rattle.filter.proofs.Records.{Begun, begun-none, begun-more, begun-all}
+use Rattle.filter.specs.Steps.{Recorded}
+use Rattle.filter.proofs.Records.{recorded-none, recorded-more}
 use borrow.Author.Needs.{needs}
 use Rattle.filter.proofs.size.write_records.Statement.{statement}
 use Rattle.filter.proofs.size.write_records.Tie as tie
 
 abbrev Inv-loop : tie.InvT-loop
-Inv-loop work₀ n e₀ work e = (e ≤ 4 * n) × Begun n e work₀ work
+Inv-loop work₀ n e₀ work e = (e ≤ 4 * n) × Recorded n e work₀ work
 
 abbrev μ-loop : tie.MeasureT-loop
 μ-loop work₀ n e₀ work e = 4 * n - e
 
 loop-holds : tie.Need-loop-holds Inv-loop μ-loop
-loop-holds c = (search needs, begun-none _ _)
+loop-holds c = (search needs, recorded-none _ _)
 
 mul-loop : tie.Need-mul-loop Inv-loop μ-loop
 mul-loop c = search needs
@@ -81,7 +82,7 @@ loop-less : tie.Need-loop-less Inv-loop μ-loop
 loop-less c = search needs
 
 loop-again : tie.Need-loop-again Inv-loop μ-loop
-loop-again c = (search needs, begun-more (c .before .before .before .loop .inv .1) (c .before .before .loop-test .taken) (c .before .before .before .before .pre))
+loop-again c = (search needs, recorded-more (c .before .before .before .loop .inv .1) (c .before .before .loop-test .taken) (c .before .before .before .before .pre))
 
 same-length : tie.Need-same-length Inv-loop μ-loop
 same-length c = search needs
@@ -89,7 +90,7 @@ same-length c = search needs
 returns : tie.Need-returns Inv-loop μ-loop
 returns c =
     let e : c .before .loop .e ≡ 4 * c .before .before .args .n = omega arith in
-    begun-all (rw e at (c .before .loop .inv .1))
+    rw e at (c .before .loop .inv .1)
 
 pub write-records-spec : {M : Type 1} → statement M
 write-records-spec =
