@@ -1,4 +1,4 @@
-// Groups of cells: which are reached from which across shared sides.
+// Groups of cells: which are linked across shared sides.
 mod forest;
 pub mod inner;
 mod sides;

@@ -7,9 +7,8 @@ use Prim.Native.Nat.{ℕ, zero, suc, _<_}
 use native.Mathlib.Omega.{arith}
 use lib.Ieee.{Float}
 use lib.ListN.{length}
-use Rattle.refusal.specs.declared.Gate.{Gate}
-use Rattle.refusal.specs.declared.Gate.the-variants.{Open, Shut}
 use Rattle.refusal.specs.declared.Refusal.{Refusal}
+use Rattle.refusal.proofs.Rows.{shut-open, one-why}
 use Rattle.words.specs.Listing.{listing}
 use Rattle.words.proofs.Listing.{length-listing, getD-listing, is-listing}
 use Rattle.cells.specs.Groups.{Groups}
@@ -71,12 +70,6 @@ marks-determined i m n (sized e group G median M) (sized f other H another N) =
     (λ q h. mark-same i q _ _ (λ l. ap (λ (v : Float). offSize (i .params) v (sideLength i q)) (median-same i group other G H median another M N q h l)))
 
 -- ---- the outcome
-
-shut-open : (g : Gate) (why : Refusal) → g ≡ Shut why → g ≡ Open → ⊥
-shut-open g why e f = let z : _≡_ {A = ℕ} 0 1 = cc in omega arith
-
-one-why : (g : Gate) (why other : Refusal) → g ≡ Shut why → g ≡ Shut other → why ≡ other
-one-why g why other e f = let z : Shut why ≡ Shut other = sym e ∙ f in cc
 
 pub determined : (i : Input) (work kept : List ℕ) (o p : Outcome) → Allowed i work kept o → Allowed i work kept p → o ≡ p
 determined i work kept o p (refused why e) (refused other f) =

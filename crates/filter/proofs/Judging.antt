@@ -88,23 +88,23 @@ at-front xs ys n f h q l = let z : q ≡ 0 + q = omega arith in ap (λ (k : ℕ)
 module _ (i : Input) (sound : Sound i) (w0 w1 w2 w3 : List ℕ)
     (len1 : length w1 ≡ length w0)
     (first : (q : ℕ) → q < quadCount i → getD w1 q 0 ≡ one (crowded (i .quads) q))
-    (lengths : Filled w1 w2 (lengthsAt (quadCount i)) (length (i .quads)) (length (i .quads)) (sideWord i))
+    (lengths : Filled w1 w2 (lengthsAt (quadCount i)) (length (i .quads)) (length (i .quads)) (sideWord (i .xs) (i .ys) (i .quads)))
     (second : Filled w2 w3 0 (quadCount i) (quadCount i) (skewMark (i .params .ratio) w2 (quadCount i))) where
   abbrev n : ℕ
   n = quadCount i
 
   -- the word of a side, in any list that holds the words
-  side-in : (w : List ℕ) → ((e : ℕ) → e < 4 * n → getD w (lengthsAt n + e) 0 ≡ sideWord i e) → (q k : ℕ) → q < n → k < 4 → lengthIn w n q k ≡ sideLength i q k
+  side-in : (w : List ℕ) → ((e : ℕ) → e < 4 * n → getD w (lengthsAt n + e) 0 ≡ sideWord (i .xs) (i .ys) (i .quads) e) → (q k : ℕ) → q < n → k < 4 → lengthIn w n q k ≡ sideLength i q k
   unfolding lengthIn sideWord
   side-in w h q k a b =
       let quot : (4 * q + k) / 4 ≡ q = omega arith in
       let rest : (4 * q + k) % 4 ≡ k = omega arith in
       ap (Ieee.ofBits binary32) (h (4 * q + k) (omega arith) ∙ rw (quot, rest)) ∙ word-back (sideLength i q k) (side-is i q k)
 
-  words2 : (e : ℕ) → e < 4 * n → getD w2 (lengthsAt n + e) 0 ≡ sideWord i e
+  words2 : (e : ℕ) → e < 4 * n → getD w2 (lengthsAt n + e) 0 ≡ sideWord (i .xs) (i .ys) (i .quads) e
   words2 e h = lengths .holds e (omega (arith, sound .whole))
 
-  words3 : (e : ℕ) → e < 4 * n → getD w3 (lengthsAt n + e) 0 ≡ sideWord i e
+  words3 : (e : ℕ) → e < 4 * n → getD w3 (lengthsAt n + e) 0 ≡ sideWord (i .xs) (i .ys) (i .quads) e
   words3 e h = second .kept .rest (lengthsAt n + e) (λ j b s. omega arith) ∙ words2 e h
 
   marks2 : (q : ℕ) → q < n → getD w2 q 0 ≡ one (crowded (i .quads) q)
@@ -144,11 +144,11 @@ module _ (i : Input) (sound : Sound i) (w0 w1 w2 w3 : List ℕ)
     abbrev median : ℕ → Float
     median g = Ieee.ofBits binary32 (getD mid (mediansAt n + g) 0)
 
-    words4 : (e : ℕ) → e < 4 * n → getD mid (lengthsAt n + e) 0 ≡ sideWord i e
+    words4 : (e : ℕ) → e < 4 * n → getD mid (lengthsAt n + e) 0 ≡ sideWord (i .xs) (i .ys) (i .quads) e
     words4 e h = weight .lengths e h ∙ words3 e h
 
     middle : (q : ℕ) → q < n → Median (sidesTo i group (group q) n) (median (group q))
-    middle q h = median-from-word i group (group q) n _ (middle-same (λ (e : ℕ). group (e / 4)) (λ (e : ℕ). getD w3 (lengthsAt n + e) 0) (sideWord i) (4 * n) (group q) _ words3 (weight .medians q h))
+    middle q h = median-from-word i group (group q) n _ (middle-same (λ (e : ℕ). group (e / 4)) (λ (e : ℕ). getD w3 (lengthsAt n + e) 0) (sideWord (i .xs) (i .ys) (i .quads)) (4 * n) (group q) _ words3 (weight .medians q h))
 
     marks4 : (q : ℕ) → q < n → getD w4 q 0 ≡ markBy (crowded (i .quads) q) (skewed i q) (offSize (i .params) (median (group q)) (sideLength i q))
     unfolding sizeMark medianIn

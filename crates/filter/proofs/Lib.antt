@@ -1,6 +1,4 @@
 pub mod Literal
-pub mod Refilled
-pub mod Sweep
 pub mod Tally
 pub mod Crowd
 pub mod Sides

@@ -24,7 +24,7 @@ use Rattle.quads.proofs.Made.{length-words}
 use Rattle.quads.proofs.Ordered.{Single, all-ordered}
 use Rattle.filter.specs.Input.{Input, quadCount}
 use Rattle.filter.specs.Marks.{quadAt, keptTo, keptOf}
-use Rattle.filter.specs.Kept.{Picked}
+use Rattle.filter.specs.Picked.{Picked}
 use Rattle.filter.proofs.Kept.{kept-none, kept-yes, kept-no}
 
 -- ---- a choice of places

@@ -15,7 +15,7 @@ use lib.ListN.{length, getD, length-append, List·getD-append}
 use lib.Seq.{getD-append-add}
 use Rattle.measure.proofs.LengthWords.{IsLength, length-is, word-back, word-one, word-order}
 use Rattle.words.specs.Sorting.{one, equal}
-use Rattle.filter.specs.Input.{Input, sideLength, lengthBetween}
+use Rattle.filter.specs.Input.{Input, sideLength, sideOf, lengthBetween}
 use Rattle.filter.specs.Median.{less, upTo, Median}
 use Rattle.filter.specs.Size.{sidesTo}
 use Rattle.filter.specs.Steps.{sideWord, lowerIn, MiddleWord}
@@ -155,7 +155,7 @@ held-right l m x (k, h, e) = (length l + k, omega (arith, length-append l m), ge
 -- ---- the sides of a group are lengths
 
 pub side-is : (i : Input) (q k : ℕ) → IsLength (sideLength i q k)
-unfolding sideLength lengthBetween
+unfolding sideOf lengthBetween
 side-is i q k = length-is _ _
 
 module _ (i : Input) (group : ℕ → ℕ) (g : ℕ) where
@@ -201,7 +201,7 @@ module _ (i : Input) (group : ℕ → ℕ) (g : ℕ) where
     tally-sides zero = refl
     tally-sides (suc q) = rw (tally-append p (sidesTo i group g q) (added q), tally-sides q, added-tally q, tally-four t q)
 
-  word-at : (q k : ℕ) → k < 4 → sideWord i (4 * q + k) ≡ Ieee.toBits binary32 (sideLength i q k)
+  word-at : (q k : ℕ) → k < 4 → sideWord (i .xs) (i .ys) (i .quads) (4 * q + k) ≡ Ieee.toBits binary32 (sideLength i q k)
   unfolding sideWord
   word-at q k h =
       let a : (4 * q + k) / 4 ≡ q = omega arith in
@@ -211,22 +211,22 @@ module _ (i : Input) (group : ℕ → ℕ) (g : ℕ) where
   group-at : (q k : ℕ) → k < 4 → group ((4 * q + k) / 4) ≡ group q
   group-at q k h = ap group (omega arith)
 
-  less-words : (v : Float) → IsLength v → (n : ℕ) → less (sidesTo i group g n) v ≡ lowerIn (λ (e : ℕ). group (e / 4)) (sideWord i) g (4 * n) (Ieee.toBits binary32 v)
+  less-words : (v : Float) → IsLength v → (n : ℕ) → less (sidesTo i group g n) v ≡ lowerIn (λ (e : ℕ). group (e / 4)) (sideWord (i .xs) (i .ys) (i .quads)) g (4 * n) (Ieee.toBits binary32 v)
   less-words v l n =
       less-tally (sidesTo i group g n) v
-      ∙ tally-sides (λ (x : Float). Ieee.lt x v) (λ (e : ℕ). eqb (group (e / 4)) g && ltb (sideWord i e) (Ieee.toBits binary32 v)) same n
-      ∙ sym (lower-tally (λ (e : ℕ). group (e / 4)) (sideWord i) g (Ieee.toBits binary32 v) (4 * n))
+      ∙ tally-sides (λ (x : Float). Ieee.lt x v) (λ (e : ℕ). eqb (group (e / 4)) g && ltb (sideWord (i .xs) (i .ys) (i .quads) e) (Ieee.toBits binary32 v)) same n
+      ∙ sym (lower-tally (λ (e : ℕ). group (e / 4)) (sideWord (i .xs) (i .ys) (i .quads)) g (Ieee.toBits binary32 v) (4 * n))
     where
-      same : (q k : ℕ) → k < 4 → (eqb (group ((4 * q + k) / 4)) g && ltb (sideWord i (4 * q + k)) (Ieee.toBits binary32 v)) ≡ (eqb (group q) g && Ieee.lt (sideLength i q k) v)
+      same : (q k : ℕ) → k < 4 → (eqb (group ((4 * q + k) / 4)) g && ltb (sideWord (i .xs) (i .ys) (i .quads) (4 * q + k)) (Ieee.toBits binary32 v)) ≡ (eqb (group q) g && Ieee.lt (sideLength i q k) v)
       same q k h = rw (group-at q k h, word-at q k h, word-order (sideLength i q k) v (side-is i q k) l)
 
-  upTo-words : (v : Float) → IsLength v → (n : ℕ) → upTo (sidesTo i group g n) v ≡ lowerIn (λ (e : ℕ). group (e / 4)) (sideWord i) g (4 * n) (Ieee.toBits binary32 v + 1)
+  upTo-words : (v : Float) → IsLength v → (n : ℕ) → upTo (sidesTo i group g n) v ≡ lowerIn (λ (e : ℕ). group (e / 4)) (sideWord (i .xs) (i .ys) (i .quads)) g (4 * n) (Ieee.toBits binary32 v + 1)
   upTo-words v l n =
       upTo-tally (sidesTo i group g n) v
-      ∙ tally-sides (λ (x : Float). not (Ieee.lt v x)) (λ (e : ℕ). eqb (group (e / 4)) g && ltb (sideWord i e) (Ieee.toBits binary32 v + 1)) same n
-      ∙ sym (lower-tally (λ (e : ℕ). group (e / 4)) (sideWord i) g (Ieee.toBits binary32 v + 1) (4 * n))
+      ∙ tally-sides (λ (x : Float). not (Ieee.lt v x)) (λ (e : ℕ). eqb (group (e / 4)) g && ltb (sideWord (i .xs) (i .ys) (i .quads) e) (Ieee.toBits binary32 v + 1)) same n
+      ∙ sym (lower-tally (λ (e : ℕ). group (e / 4)) (sideWord (i .xs) (i .ys) (i .quads)) g (Ieee.toBits binary32 v + 1) (4 * n))
     where
-      same : (q k : ℕ) → k < 4 → (eqb (group ((4 * q + k) / 4)) g && ltb (sideWord i (4 * q + k)) (Ieee.toBits binary32 v + 1)) ≡ (eqb (group q) g && not (Ieee.lt v (sideLength i q k)))
+      same : (q k : ℕ) → k < 4 → (eqb (group ((4 * q + k) / 4)) g && ltb (sideWord (i .xs) (i .ys) (i .quads) (4 * q + k)) (Ieee.toBits binary32 v + 1)) ≡ (eqb (group q) g && not (Ieee.lt v (sideLength i q k)))
       same q k h = rw (group-at q k h, word-at q k h, word-order v (sideLength i q k) l (side-is i q k), not-above (Ieee.toBits binary32 (sideLength i q k)) (Ieee.toBits binary32 v))
 
   length-words : (n : ℕ) → length (sidesTo i group g n) ≡ equal (λ (e : ℕ). group (e / 4)) (4 * n) g
@@ -252,7 +252,7 @@ module _ (i : Input) (group : ℕ → ℕ) (g : ℕ) where
       go (yes s) ih = held-right (sidesTo i group g n) (added n) (sideLength i q k) (subst (λ (m : ℕ). Held (added m) (sideLength i q k)) s own)
       go (no s) ih = held-left (sidesTo i group g n) (added n) (sideLength i q k) (ih (omega (arith, s)))
 
-  pub median-from-word : (n b : ℕ) → MiddleWord (λ (e : ℕ). group (e / 4)) (sideWord i) (4 * n) g b → Median (sidesTo i group g n) (Ieee.ofBits binary32 b)
+  pub median-from-word : (n b : ℕ) → MiddleWord (λ (e : ℕ). group (e / 4)) (sideWord (i .xs) (i .ys) (i .quads)) (4 * n) g b → Median (sidesTo i group g n) (Ieee.ofBits binary32 b)
   unfolding sideWord
   median-from-word n b m = subst (Median (sidesTo i group g n)) (sym (word-back x l) ∙ ap (Ieee.ofBits binary32) (m .is)) found
     where

@@ -20,7 +20,7 @@ use Rattle.mesh.specs.Cells.{notBelow, cornersRow, some, namesTwice, twiceRow}
 use Rattle.cells.specs.Groups.{Groups}
 use Rattle.cells.specs.Groups.Linked.{same}
 use Rattle.quads.specs.Call.{wordsOf}
-use Rattle.filter.specs.Input.{lengthBetween, sideLength}
+use Rattle.filter.specs.Input.{lengthBetween, sideOf}
 use Rattle.filter.specs.Topology.{incidence, illegal, crowded}
 use Rattle.filter.specs.Opposing.{greaterOf, lesserOf, raised, ratioOf, uneven, skewed}
 use Rattle.filter.specs.Median.{less, upTo, Median}
@@ -35,14 +35,14 @@ alone : Groups (Joined square) 1 (λ (q : ℕ). q)
 alone = record { linked = λ x h. same; together = λ x y e. omega (arith, e .from, e .to); lowest = λ x h. le-refl x }
 
 ten : Median (sidesTo square (λ (q : ℕ). q) 0 1) (fraction 10 1)
-unfolding ofBits round add sub mul lt sigOf expOf units unitsOf greatest reaches rootPattern rootOf orZero lengthOf lengthBetween sideLength one less upTo sidesTo
+unfolding ofBits round add sub mul lt sigOf expOf units unitsOf greatest reaches rootPattern rootOf orZero lengthOf lengthBetween sideOf one less upTo sidesTo
 ten = record { at = 0; at-lt = lit< tt; is = refl; before = lit≤ tt; after = lit< tt }
 
 median : (q : ℕ) → q < 1 → left square q ≡ true → Median (sidesTo square (λ (q : ℕ). q) q 1) (fraction 10 1)
 median q h l = let z : 0 ≡ q = omega arith in subst (λ (g : ℕ). Median (sidesTo square (λ (q : ℕ). q) g 1) (fraction 10 1)) z ten
 
 pub single : Single
-unfolding ofBits round add sub mul div lt eq le isNan firstOf refuseFirst listing one equal within sigOf expOf units unitsOf greatest reaches rootPattern rootOf orZero lengthOf misplaced positionsRow notBelow cornersRow some namesTwice twiceRow wordsOf lengthBetween sideLength incidence illegal crowded greaterOf lesserOf raised ratioOf uneven skewed hasLeast hasGreatest isSkipped offSide offSize markBy keptTo keptOf lengthsGate paramsGate valuesGate gateOf entryGate
+unfolding ofBits round add sub mul div lt eq le isNan firstOf refuseFirst listing one equal within sigOf expOf units unitsOf greatest reaches rootPattern rootOf orZero lengthOf misplaced positionsRow notBelow cornersRow some namesTwice twiceRow wordsOf lengthBetween sideOf incidence illegal crowded greaterOf lesserOf raised ratioOf uneven skewed hasLeast hasGreatest isSkipped offSide offSize markBy keptTo keptOf lengthsGate paramsGate valuesGate gateOf entryGate
 single =
     let marks = sized refl (λ (q : ℕ). q) alone (λ (g : ℕ). fraction 10 1) median in
     record { kept = judged refl _ marks; no-room = judged refl _ marks; no-workspace = refused _ refl }

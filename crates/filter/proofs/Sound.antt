@@ -38,10 +38,10 @@ lengths-open x y quads e =
 -- rows 1 and 2 let through what rows 1 to 6 do
 pub gate-paired : (i : Input) → gateOf i ≡ Open → Paired (length (i .xs)) (length (i .ys)) (length (i .quads))
 unfolding gateOf
-gate-paired i e = lengths-open _ _ _ (open-both (lengthsGate (length (i .xs)) (length (i .ys)) (length (i .quads))) (paramsGate (i .params) then valuesGate i) e .0)
+gate-paired i e = lengths-open _ _ _ (open-both (lengthsGate (length (i .xs)) (length (i .ys)) (length (i .quads))) (paramsGate (i .params) then valuesGate (i .xs) (i .ys) (i .quads)) e .0)
 
 -- rows 5 and 6
-values-open : (i : Input) → valuesGate i ≡ Open
+values-open : (i : Input) → valuesGate (i .xs) (i .ys) (i .quads) ≡ Open
     → ((k : ℕ) → k < length (i .quads) → getD (i .quads) k 0 < length (i .xs)) × ((q : ℕ) → q < quadCount i → namesTwice 4 (i .quads) q ≡ false)
 unfolding valuesGate
 values-open i e =
@@ -53,8 +53,8 @@ gate-sound : (i : Input) → gateOf i ≡ Open → Sound i
 unfolding gateOf
 gate-sound i e =
     let l = gate-paired i e in
-    let rows = open-both (lengthsGate (length (i .xs)) (length (i .ys)) (length (i .quads))) (paramsGate (i .params) then valuesGate i) e in
-    let v = values-open i (open-both (paramsGate (i .params)) (valuesGate i) (rows .1) .1) in
+    let rows = open-both (lengthsGate (length (i .xs)) (length (i .ys)) (length (i .quads))) (paramsGate (i .params) then valuesGate (i .xs) (i .ys) (i .quads)) e in
+    let v = values-open i (open-both (paramsGate (i .params)) (valuesGate (i .xs) (i .ys) (i .quads)) (rows .1) .1) in
     record {
       paired = l .y-is;
       whole = omega (arith, l .whole);

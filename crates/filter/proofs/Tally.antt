@@ -7,9 +7,8 @@ use native.Mathlib.Omega.{arith}
 use lib.ListN.{length, getD, set}
 use Rattle.words.specs.Regions.{Filled}
 use Rattle.words.specs.Sorting.{equal}
-use Rattle.words.proofs.Regions.{kept-refl}
+use Rattle.words.proofs.Regions.{kept-refl, filled-at}
 use Rattle.words.proofs.Rank.{equal-zero, equal-yes, equal-no, equal-le}
-use Rattle.filter.proofs.Refilled.{filled-at}
 
 -- the words of a region count the first j places
 abbrev pub Tallied : (ℕ → ℕ) → ℕ → List ℕ → List ℕ → ℕ → ℕ → Type 0

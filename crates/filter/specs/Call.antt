@@ -3,6 +3,7 @@
 use mathlib.Core.Path.{_≡_}
 use mathlib.Core.List.{List, _++_}
 use Prim.Native.Nat.{ℕ, _*_, _/_}
+use lib.Ieee.{Float}
 use lib.ListN.{length, drop, replicate}
 use Rattle.refusal.specs.declared.Gate.{Gate}
 use Rattle.refusal.specs.declared.Gate.the-variants.{Open, Shut}
@@ -29,11 +30,11 @@ unfoldable pub paramsGate : FilterParams → Gate
 paramsGate p = parameterRow (p .ratio) 1 then parameterRow (p .least) 2 then parameterRow (p .greatest) 3
 
 -- rows 4 to 6 look at what the lists hold
-unfoldable pub valuesGate : Input → Gate
-valuesGate i = positionsRow (i .xs) (i .ys) then cornersRow (length (i .xs)) (i .quads) then twiceRow 4 (i .quads)
+unfoldable pub valuesGate : List Float → List Float → List ℕ → Gate
+valuesGate xs ys quads = positionsRow xs ys then cornersRow (length xs) quads then twiceRow 4 quads
 
 unfoldable pub gateOf : Input → Gate
-gateOf i = lengthsGate (length (i .xs)) (length (i .ys)) (length (i .quads)) then paramsGate (i .params) then valuesGate i
+gateOf i = lengthsGate (length (i .xs)) (length (i .ys)) (length (i .quads)) then paramsGate (i .params) then valuesGate (i .xs) (i .ys) (i .quads)
 
 -- row 8
 unfoldable pub entryGate : Input → ℕ → Gate

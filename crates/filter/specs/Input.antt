@@ -17,15 +17,14 @@ pub record Input : Type 0 where
 abbrev pub quadCount : Input → ℕ
 quadCount i = length (i .quads) / 4
 
--- corner k of quad q, counted round
-abbrev pub corner : Input → ℕ → ℕ → ℕ
-corner i q k = cell 4 (i .quads) q k
-
 -- from corner a to corner b
 unfoldable pub lengthBetween : List Float → List Float → ℕ → ℕ → Float
 lengthBetween xs ys a b =
     lengthOf (Ieee.sub binary32 (getD xs b nan) (getD xs a nan)) (Ieee.sub binary32 (getD ys b nan) (getD ys a nan))
 
--- side k of quad q
-unfoldable pub sideLength : Input → ℕ → ℕ → Float
-sideLength i q k = lengthBetween (i .xs) (i .ys) (corner i q k) (corner i q (k + 1))
+-- side k of quad q, from corner k to the next one round
+unfoldable pub sideOf : List Float → List Float → List ℕ → ℕ → ℕ → Float
+sideOf xs ys quads q k = lengthBetween xs ys (cell 4 quads q k) (cell 4 quads q (k + 1))
+
+abbrev pub sideLength : Input → ℕ → ℕ → Float
+sideLength i = sideOf (i .xs) (i .ys) (i .quads)

@@ -9,6 +9,6 @@ pub mod Layout
 pub mod Steps
 pub mod Examples
 pub mod Worked
-pub mod Kept
+pub mod Picked
 pub mod Single
 pub mod Row

@@ -16,7 +16,7 @@ use Rattle.cells.specs.Table.{unmarked, groupsAt, tableAt}
 use Rattle.mesh.specs.Lists.{mostCorners, mostQuads}
 use Rattle.mesh.specs.Cells.{namesTwice}
 use Rattle.filter.specs.declared.FilterParams.{FilterParams}
-use Rattle.filter.specs.Input.{Input, quadCount, sideLength}
+use Rattle.filter.specs.Input.{Input, quadCount, sideOf}
 use Rattle.filter.specs.Layout.{lengthsAt, mediansAt}
 use Rattle.filter.specs.Opposing.{uneven}
 use Rattle.filter.specs.Size.{isSkipped, offSize}
@@ -32,8 +32,8 @@ pub record Sound (i : Input) : Type 0 where
   pub differ : (q : ℕ) → q < quadCount i → namesTwice 4 (i .quads) q ≡ false
 
 -- the word of side e, counted through the whole list
-unfoldable pub sideWord : Input → ℕ → ℕ
-sideWord i e = Ieee.toBits binary32 (sideLength i (e / 4) (e % 4))
+unfoldable pub sideWord : List Float → List Float → List ℕ → ℕ → ℕ
+sideWord xs ys quads e = Ieee.toBits binary32 (sideOf xs ys quads (e / 4) (e % 4))
 
 -- the lengths that stand in the workspace
 unfoldable pub lengthIn : List ℕ → ℕ → ℕ → ℕ → Float

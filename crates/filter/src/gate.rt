@@ -39,9 +39,9 @@ fn params_gate(params: FilterParams) -> Gate
 }
 
 // Rows 4 to 6, for lists that rows 1 and 2 let through.
-fn values_gate(x: &[f32], y: &[f32], quads: &[u32], params: FilterParams) -> Gate
+fn values_gate(x: &[f32], y: &[f32], quads: &[u32]) -> Gate
     requires { ⌜ (length (now y) ≡ length (now x)) × (length (now x) ≤ mostCorners) × (length (now quads) / 4 ≤ mostQuads) ⌝ }
-    ensures { λ r. ⌜ r ≡ valuesGate (record { xs = now (x .entry); ys = now (y .entry); quads = now (quads .entry); params = params }) ⌝ }
+    ensures { λ r. ⌜ r ≡ valuesGate (now (x .entry)) (now (y .entry)) (now (quads .entry)) ⌝ }
 {
     let corners = in_order(corners_row(quads, x.len()), twice_row(quads, 4));
     in_order(positions_row(x, y), corners)
@@ -53,7 +53,7 @@ fn judge(x: &[f32], y: &[f32], quads: &[u32], params: FilterParams) -> Gate
 {
     let lengths = lengths_gate(x.len(), y.len(), quads.len());
     match lengths {
-        Gate::Open => in_order(params_gate(params), values_gate(x, y, quads, params)),
+        Gate::Open => in_order(params_gate(params), values_gate(x, y, quads)),
         Gate::Shut(why) => Gate::Shut(why),
     }
 }

@@ -23,7 +23,7 @@ pub fn mark_quads(x: &[f32], y: &[f32], quads: &[u32], params: FilterParams, wor
     ensures { λ _. ⌜ Judged (record { xs = now (x .entry); ys = now (y .entry); quads = now (quads .entry); params = params }) (now (work .entry)) (now (work .exit)) ⌝ }
 {
     mark_crowded(quads, work, x.len());
-    write_lengths(x, y, quads, params, work);
+    write_lengths(x, y, quads, work);
     mark_skewed(work, quads.len() / 4, params.ratio);
     mark_off_size(quads, work, params);
 }

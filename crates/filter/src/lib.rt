@@ -7,6 +7,7 @@ use words::inner::fill_zero;
 
 mod gate;
 pub mod inner;
+mod layout;
 mod lengths;
 mod opposing;
 mod size;

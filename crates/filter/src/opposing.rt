@@ -8,8 +8,7 @@ ghost use Rattle.words.specs.Regions.{Filled};
 ghost use Rattle.filter.specs.Layout.{lengthsAt};
 ghost use Rattle.filter.specs.Opposing.{greaterOf, lesserOf, raised, ratioOf, uneven};
 ghost use Rattle.filter.specs.Steps.{lengthIn, skewMark};
-use crate::lengths::LENGTHS;
-use measure::inner::float_of;
+use crate::lengths::length_at;
 
 // A lesser side below this is taken for it.
 const TINY: f32 = 0.000001;
@@ -43,14 +42,6 @@ fn ratio(a: f32, b: f32) -> f32
     ensures { λ r. ⌜ r ≡ ratioOf a b ⌝ }
 {
     over(greater(a, b), lesser(a, b))
-}
-
-// The length of side k of quad q, of n.
-pub(crate) fn length_at(work: &[u32], n: usize, q: usize, k: usize) -> f32
-    requires { ⌜ (q < n) × (k < 4) × (lengthsAt n + 4 * n ≤ length (now work)) ⌝ }
-    ensures { λ r. ⌜ r ≡ lengthIn (now (work .entry)) n q k ⌝ }
-{
-    float_of(work[LENGTHS * n + (4 * q + k)])
 }
 
 fn is_uneven(work: &[u32], n: usize, q: usize, limit: f32) -> bool

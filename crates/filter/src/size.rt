@@ -10,16 +10,16 @@ ghost use Rattle.filter.specs.Layout.{spareAt, lengthsAt, mediansAt};
 ghost use Rattle.filter.specs.Size.{isSkipped, offSide, offSize};
 ghost use Rattle.filter.specs.Steps.{lengthIn, sizeMark, Recorded, Rising, Run, Centred, Weighed, Sized};
 use crate::FilterParams;
-use crate::lengths::LENGTHS;
-use crate::opposing::length_at;
+use crate::layout::LENGTHS;
+use crate::layout::MEDIANS;
+use crate::layout::SPARE;
+use crate::layout::TABLE;
+use crate::lengths::length_at;
 use cells::inner::groups;
 use measure::inner::float_of;
 use measure::inner::is_finite;
 use words::inner::order::order_in_groups;
 use words::inner::wide;
-
-// How many words stand before the medians, for each quad.
-const MEDIANS: usize = 22;
 
 // A record for every side: its length, and the group of its quad.
 fn write_records(work: &mut [u32], n: usize)
@@ -28,8 +28,8 @@ fn write_records(work: &mut [u32], n: usize)
 {
     let mut e = 0;
     while e < 4 * n {
-        work[2 * n + 2 * e] = work[LENGTHS * n + e];
-        work[2 * n + 2 * e + 1] = work[n + e / 4];
+        work[TABLE * n + 2 * e] = work[LENGTHS * n + e];
+        work[TABLE * n + 2 * e + 1] = work[n + e / 4];
         e += 1;
     }
 }
@@ -41,10 +41,10 @@ fn run_end(work: &[u32], n: usize, s: usize) -> usize
     requires { ⌜ ((k : ℕ) → k < s → wordOf (now work) (tableAt n) 1 k < wordOf (now work) (tableAt n) 1 s) ⌝ }
     ensures { λ r. ⌜ Run (wordOf (now (work .entry)) (tableAt n) 1) (4 * n) s r ⌝ }
 {
-    let group = work[2 * n + 2 * s + 1];
+    let group = work[TABLE * n + 2 * s + 1];
     let mut e = s + 1;
     while e < 4 * n {
-        if work[2 * n + 2 * e + 1] != group {
+        if work[TABLE * n + 2 * e + 1] != group {
             return e;
         }
         e += 1;
@@ -69,9 +69,9 @@ fn write_medians(work: &mut [u32], n: usize)
     let mut s = 0;
     while s < 4 * n {
         let e = run_end(work, n, s);
-        let group = wide(work[2 * n + 2 * s + 1]);
+        let group = wide(work[TABLE * n + 2 * s + 1]);
         let mid = middle(s, e);
-        work[MEDIANS * n + group] = work[2 * n + 2 * mid];
+        work[MEDIANS * n + group] = work[TABLE * n + 2 * mid];
         s = e;
     }
 }
@@ -154,7 +154,7 @@ fn write_groups(quads: &[u32], work: &mut [u32], n: usize)
 {
     groups(quads, 4, n, work);
     write_records(work, n);
-    order_in_groups(work, 2 * n, 10 * n, 4 * n);
+    order_in_groups(work, TABLE * n, SPARE * n, 4 * n);
     write_medians(work, n);
 }
 

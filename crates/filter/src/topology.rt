@@ -8,11 +8,9 @@ ghost use Rattle.words.specs.Sorting.{one};
 ghost use Rattle.mesh.specs.Lists.{mostQuads};
 ghost use Rattle.filter.specs.Layout.{incidenceAt};
 ghost use Rattle.filter.specs.Topology.{incidence, crowded};
+use crate::layout::INCIDENCE;
 use words::inner::fill_zero;
 use words::inner::wide;
-
-// How many words stand before the corners' incidence, for each quad.
-const INCIDENCE: usize = 23;
 
 // Adds 2 to a corner's word at each place that names it.
 fn tally_corners(quads: &[u32], work: &mut [u32], at: usize, corners: usize)

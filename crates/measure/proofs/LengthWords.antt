@@ -20,7 +20,7 @@ use Rattle.measure.specs.Length.{squares, orZero, lengthOf}
 use Rattle.measure.specs.Value.{valueOf}
 use Rattle.measure.proofs.Sign.{odd-sign}
 use Rattle.measure.proofs.Patterns.{units-mono, units-lt}
-use Rattle.measure.proofs.PatternFloats.{positive-sign, clear-bits, clear-units}
+use Rattle.measure.proofs.PatternFloats.{positive-sign, clear-units}
 use Rattle.measure.proofs.RootComputed.{root-of-rule}
 use Rattle.measure.proofs.Value.{same-lt, both-above, lt-value}
 
@@ -88,9 +88,6 @@ length-is dx dy = root-length (squares dx dy) (add-fits binary32 (mul binary32 d
 
 pub word-back : (x : Float) → IsLength x → ofBits binary32 (toBits binary32 x) ≡ x
 word-back x l = ofBits-toBits binary32 x (l .held)
-
-pub word-small : (x : Float) → IsLength x → toBits binary32 x < 4294967296
-word-small x l = omega (arith, clear-bits x (l .held) (l .number) (l .clear))
 
 -- two that have one word are equal
 pub word-one : (x y : Float) → IsLength x → IsLength y → toBits binary32 x ≡ toBits binary32 y → x ≡ y

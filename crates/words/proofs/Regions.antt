@@ -1,13 +1,13 @@
 -- Laws of regions: a store in one keeps what is outside it and may be the next that it is to hold, and a part of a list that was lent
--- and has come back changes that part alone. Assumes nothing.
-use mathlib.Core.Path.{_≡_, refl, sym, ap, _∙_}
+-- and has come back changes that part alone, all zero if it came back so. Assumes nothing.
+use mathlib.Core.Path.{_≡_, refl, sym, ap, subst, _∙_}
 use mathlib.Core.List.{List, _++_}
 use Prim.Native.Nat.{ℕ, _+_, _-_, _≤_, _<_}
 use native.Mathlib.Decide.{ℕ-discrete, decLt}
 use native.Mathlib.Omega.{arith}
-use lib.ListN.{length, getD, set, take, drop, length-set, List·getD-append}
+use lib.ListN.{length, getD, set, take, drop, replicate, length-set, length-replicate, getD-replicate, List·getD-append}
 use lib.Seq.{getD-set-same, getD-set-other, getD-take, getD-drop, getD-append-add, length-take-le}
-use borrow.Rule.Slice.PartMut.{putMid, mid-len, same-len-mid}
+use borrow.Rule.Slice.PartMut.{midOf, putMid, mid-len, same-len-mid}
 use Rattle.words.specs.Regions.{Outside, Kept, Filled}
 
 -- ---- stores
@@ -39,6 +39,31 @@ filled-more {xs} {ys} {a} {m} {n} {f} {v} q h b e = record {
   kept = kept-set (q .kept) (a + n) v (omega arith) (omega arith);
   holds = λ k l. set-cases (λ (z : ℕ). z ≡ f k) ys (a + n) v (a + k) (omega (arith, q .kept .len)) (λ s. e ∙ ap f (omega arith)) (λ s. q .holds k (omega (arith, s)));
 }
+
+-- a region that grows by the word after it: the words from there on are as they were, so that a loop may still read them
+pub filled-grow : {xs ys : List ℕ} {a q : ℕ} {f : ℕ → ℕ} (p v : ℕ) → Filled xs ys a q q f → p ≡ a + q → p < length xs → v ≡ f q → Filled xs (set ys p v) a (q + 1) (q + 1) f
+filled-grow {xs} {ys} {a} {q} {f} p v s at h e = record {
+  kept = record {
+    len = length-set ys p v ∙ s .kept .len;
+    rest = λ k o. getD-set-other ys p k v 0 (λ i. o q (omega arith) (i ∙ at)) ∙ s .kept .rest k (λ j l i. o j (omega arith) i);
+  };
+  holds = λ k l. set-cases (λ (z : ℕ). z ≡ f k) ys p v (a + k) (omega (arith, s .kept .len)) (λ i. e ∙ ap f (omega arith)) (λ i. s .holds k (omega (arith, i)));
+}
+
+-- a store at place p of a region that is filled changes what it holds at p alone
+pub filled-at : {xs ys : List ℕ} {a m : ℕ} {f : ℕ → ℕ} (g : ℕ → ℕ) (p v : ℕ) → Filled xs ys a m m f → a + m ≤ length xs → p < m → v ≡ g p → ((k : ℕ) → (k ≡ p → ⊥) → f k ≡ g k) → Filled xs (set ys (a + p) v) a m m g
+filled-at {xs} {ys} {a} {m} {f} g p v q b h e s = record {
+  kept = kept-set (q .kept) (a + p) v (omega arith) (omega arith);
+  holds = λ k l. set-cases (λ (z : ℕ). z ≡ g k) ys (a + p) v (a + k) (omega (arith, q .kept .len)) (λ n. e ∙ ap g (omega arith)) (λ n. q .holds k l ∙ s k (λ i. n (ap (λ (z : ℕ). a + z) i)));
+}
+
+-- what is filled over a region that alone had changed
+pub filled-over : {xs ys zs : List ℕ} {a m n : ℕ} {f : ℕ → ℕ} → Kept xs ys a m → Filled ys zs a m n f → Filled xs zs a m n f
+filled-over k q = record { kept = kept-trans k (q .kept); holds = q .holds }
+
+-- what stands past a region
+pub kept-past : {xs ys : List ℕ} {a m : ℕ} → Kept xs ys a m → (k : ℕ) → a + m ≤ k → getD ys k 0 ≡ getD xs k 0
+kept-past q k h = q .rest k (λ j l e. omega arith)
 
 -- ---- a part from a up to e that was lent and has come back as ys
 
@@ -74,3 +99,16 @@ module _ (xs ys : List ℕ) (a e : ℕ) (ae : a ≤ e) (el : e ≤ length xs) (s
       go k o (yes l) r = part-before k l
       go k o (no l) (yes r) = absurd (o (k - a) (omega arith) (omega arith))
       go k o (no l) (no r) = part-after k (omega arith)
+
+-- a lent part that has come back all zero
+pub filled-zero : (xs ys : List ℕ) (a m : ℕ) → a + m ≤ length xs → ys ≡ replicate (length (midOf a (a + m - a) xs)) 0 → Filled xs (putMid a (a + m - a) xs ys) a m m (λ (k : ℕ). 0)
+filled-zero xs ys a m b e = record {
+  kept = subst (λ (n : ℕ). Kept xs (putMid a (a + m - a) xs ys) a n) (omega arith) (part-kept xs ys a (a + m) (omega arith) b same);
+  holds = λ k h. part-in xs ys a (a + m) (omega arith) b same k (omega arith) ∙ ap (λ (l : List ℕ). getD l k 0) zeros ∙ getD-replicate {A = ℕ} (a + m - a) k 0 0 (omega arith);
+}
+  where
+    zeros : ys ≡ replicate (a + m - a) 0
+    zeros = e ∙ ap (λ (n : ℕ). replicate n 0) (mid-len a (a + m) xs b)
+
+    same : length ys ≡ a + m - a
+    same = ap (λ (l : List ℕ). length l) zeros ∙ length-replicate {A = ℕ} (a + m - a) 0

@@ -1,4 +1,4 @@
--- `side_word` is `sideWord`: both corners of a side are named by a sound list.
+-- `side_word` is `sideWord`: both corners of a side are named by a list of whole quads.
 use mathlib.Core.Path.{_∙_}
 use native.Mathlib.Omega.{arith}
 use Rattle.filter.proofs.Sides.{next-inside, side-ends}
@@ -35,12 +35,11 @@ wide-requires-2 c κs = search needs
 
 length-word-requires : tie.Need-length-word-requires
 length-word-requires c κs =
-    let s = c .before .before .before .before .before .before .before .pre .0 in
-    let h = c .before .before .before .before .before .before .before .pre .1 in
-    (omega (arith, c .before .before .wide .ensures, s .named _ h), omega (arith, c .wide2 .ensures, s .named _ (next-inside _ _ s h)), s .paired)
+    let p = c .before .before .before .before .before .before .before .pre in
+    (omega (arith, c .before .before .wide .ensures, p .1 _ (p .0 .2)), omega (arith, c .wide2 .ensures, p .1 _ (next-inside _ _ (p .0 .1) (p .0 .2))), p .0 .0)
 
 returns : tie.Need-returns
-returns c = c .length-word .ensures ∙ side-ends _ _ _ _ (c .before .before .before .wide .ensures) (c .before .wide2 .ensures)
+returns c = c .length-word .ensures ∙ side-ends _ _ _ _ _ _ (c .before .before .before .wide .ensures) (c .before .wide2 .ensures)
 
 pub side-word-spec : {M : Type 1} → statement M
 side-word-spec =

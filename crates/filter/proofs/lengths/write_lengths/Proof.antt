@@ -12,10 +12,10 @@ use Rattle.filter.proofs.lengths.write_lengths.Statement.{statement}
 use Rattle.filter.proofs.lengths.write_lengths.Tie as tie
 
 abbrev Inv-loop : tie.InvT-loop
-Inv-loop x y quads params work₀ at e₀ work e = (e ≤ length quads) × (at ≡ lengthsAt (length quads / 4)) × Filled work₀ work at (length quads) e (sideWord (record { xs = x; ys = y; quads = quads; params = params }))
+Inv-loop x y quads work₀ at e₀ work e = (e ≤ length quads) × (at ≡ lengthsAt (length quads / 4)) × Filled work₀ work at (length quads) e (sideWord x y quads)
 
 abbrev μ-loop : tie.MeasureT-loop
-μ-loop x y quads params work₀ at e₀ work e = length quads - e
+μ-loop x y quads work₀ at e₀ work e = length quads - e
 
 mul-at : tie.Need-mul-at Inv-loop μ-loop
 mul-at c = search needs

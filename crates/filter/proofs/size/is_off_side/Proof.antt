@@ -5,7 +5,7 @@ use mathlib.Core.Logic.{⊎-elim}
 use lib.Ieee as Ieee
 use lib.Ieee.{binary32}
 use Rattle.filter.specs.Size.{hasLeast, hasGreatest, offSide}
-use Rattle.filter.proofs.Sizes.{zero-bits}
+use Rattle.filter.proofs.Literal.{zero-bits}
 use borrow.Author.Needs.{needs}
 use Rattle.filter.proofs.size.is_off_side.Statement.{statement}
 use Rattle.filter.proofs.size.is_off_side.Tie as tie

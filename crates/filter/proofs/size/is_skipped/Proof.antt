@@ -1,6 +1,6 @@
 -- `is_skipped` is `isSkipped`: the literal is 0.
 use Rattle.filter.specs.Size.{hasLeast, hasGreatest, isSkipped}
-use Rattle.filter.proofs.Sizes.{zero-bits}
+use Rattle.filter.proofs.Literal.{zero-bits}
 use borrow.Author.Needs.{needs}
 use Rattle.filter.proofs.size.is_skipped.Statement.{statement}
 use Rattle.filter.proofs.size.is_skipped.Tie as tie

@@ -1,5 +1,5 @@
 -- `count_incidence` clears its region and counts in it.
-use Rattle.filter.proofs.Refilled.{filled-over, filled-zero}
+use Rattle.words.proofs.Regions.{filled-over, filled-zero}
 use borrow.Author.Needs.{needs}
 use Rattle.filter.proofs.topology.count_incidence.Statement.{statement}
 use Rattle.filter.proofs.topology.count_incidence.Tie as tie

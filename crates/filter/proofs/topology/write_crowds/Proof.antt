@@ -3,24 +3,25 @@ use mathlib.Core.Path.{_≡_, _∙_}
 use Prim.Native.Nat.{ℕ, _/_, _-_, _≤_}
 use native.Mathlib.Omega.{arith}
 use lib.ListN.{length}
+use Rattle.words.specs.Regions.{Filled}
+use Rattle.words.proofs.Regions.{filled-none, filled-grow, kept-past}
 use Rattle.words.specs.Sorting.{one}
 use Rattle.filter.specs.Topology.{crowded}
-use Rattle.filter.proofs.Sweep.{Swept, swept-none, swept-more, swept-all}
 use borrow.Author.Needs.{needs}
 use Rattle.filter.proofs.topology.write_crowds.Statement.{statement}
 use Rattle.filter.proofs.topology.write_crowds.Tie as tie
 
 abbrev Inv-loop : tie.InvT-loop
-Inv-loop quads work₀ at corners n q₀ work q = (q ≤ n) × (n ≡ length quads / 4) × Swept work₀ work q (λ (k : ℕ). one (crowded quads k))
+Inv-loop quads work₀ at corners n q₀ work q = (q ≤ n) × (n ≡ length quads / 4) × Filled work₀ work 0 q q (λ (k : ℕ). one (crowded quads k))
 
 abbrev μ-loop : tie.MeasureT-loop
 μ-loop quads work₀ at corners n q₀ work q = n - q
 
 loop-holds : tie.Need-loop-holds Inv-loop μ-loop
-loop-holds c = (search needs, search needs, swept-none _ _)
+loop-holds c = (search needs, search needs, filled-none _ _ _ _)
 
 crowd-mark-requires : tie.Need-crowd-mark-requires Inv-loop μ-loop
-crowd-mark-requires c κs = (search needs, (c .before .before .before .before .before .pre .1 .0, λ k h. c .before .before .loop .inv .2 .later _ (search needs) ∙ c .before .before .before .before .before .pre .1 .1 k h))
+crowd-mark-requires c κs = (search needs, (c .before .before .before .before .before .pre .1 .0, λ k h. kept-past (c .before .before .loop .inv .2 .kept) _ (search needs) ∙ c .before .before .before .before .before .pre .1 .1 k h))
 
 mul-work : tie.Need-mul-work Inv-loop μ-loop
 mul-work c = search needs
@@ -35,7 +36,7 @@ loop-less : tie.Need-loop-less Inv-loop μ-loop
 loop-less c = search needs
 
 loop-again : tie.Need-loop-again Inv-loop μ-loop
-loop-again c = (search needs, search needs, swept-more _ (c .before .before .before .loop .inv .2) (search needs) (c .crowd-mark .ensures))
+loop-again c = (search needs, search needs, filled-grow _ _ (c .before .before .before .loop .inv .2) (omega arith) (search needs) (c .crowd-mark .ensures))
 
 same-length : tie.Need-same-length Inv-loop μ-loop
 same-length c = search needs
@@ -43,7 +44,7 @@ same-length c = search needs
 returns : tie.Need-returns Inv-loop μ-loop
 returns c =
     let e : c .before .loop .q ≡ length (c .before .before .before .before .args .quads .now) / 4 = omega arith in
-    swept-all (rw e at (c .before .loop .inv .2))
+    rw e at (c .before .loop .inv .2)
 
 pub write-crowds-spec : {M : Type 1} → statement M
 write-crowds-spec =

@@ -1,8 +1,8 @@
 -- `length_at` is `lengthIn`.
 use Rattle.filter.specs.Steps.{lengthIn}
 use borrow.Author.Needs.{needs}
-use Rattle.filter.proofs.opposing.length_at.Statement.{statement}
-use Rattle.filter.proofs.opposing.length_at.Tie as tie
+use Rattle.filter.proofs.lengths.length_at.Statement.{statement}
+use Rattle.filter.proofs.lengths.length_at.Tie as tie
 
 mul-float-of : tie.Need-mul-float-of
 mul-float-of c = search needs
