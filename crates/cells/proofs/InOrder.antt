@@ -62,12 +62,14 @@ module _ (size : ℕ) (cells : List ℕ) (n : ℕ) (xs ys zs : List ℕ) (S : So
       len = O .len ∙ T .kept .len;
       rest = λ k o. O .rest k (λ j l. o j (omega arith)) (λ j l e. o (2 * (size * n) + j) (omega arith) (omega arith)) ∙ T .kept .rest k (λ j l. o j (omega arith));
     };
-    cellOf = λ k. O .order .from k / size;
-    sideOf = λ k. O .order .from k % size;
-    placeOf = λ q i. O .order .to (size * q + i);
-    is = λ k h. moved (O .order .from k) k (O .order .from k / size) (O .order .from k % size) h refl (by-cells (O .order .from k) (O .order .from-lt k h));
-    at = λ q i hq hi.
-        let l : size * q + i < size * n = place-below size n q i hq hi in
-        moved (size * q + i) (O .order .to (size * q + i)) q i (O .order .to-lt (size * q + i) l) (O .order .from-to (size * q + i) l) (T .stands q i hi hq l);
-    ascends = λ j k l h. rw (orders j (omega arith), orders k h) at (ascends (O .order) j k l h);
+    table = record {
+      cellOf = λ k. O .order .from k / size;
+      sideOf = λ k. O .order .from k % size;
+      placeOf = λ q i. O .order .to (size * q + i);
+      is = λ k h. moved (O .order .from k) k (O .order .from k / size) (O .order .from k % size) h refl (by-cells (O .order .from k) (O .order .from-lt k h));
+      at = λ q i hq hi.
+          let l : size * q + i < size * n = place-below size n q i hq hi in
+          moved (size * q + i) (O .order .to (size * q + i)) q i (O .order .to-lt (size * q + i) l) (O .order .from-to (size * q + i) l) (T .stands q i hi hq l);
+      ascends = λ j k l h. rw (orders j (omega arith), orders k h) at (ascends (O .order) j k l h);
+    };
   }

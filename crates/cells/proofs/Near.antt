@@ -21,7 +21,7 @@ use Rattle.cells.proofs.Classes.{classes-alone, classes-more, classes-s
 -- ---- the table is past the groups' part, so it stays
 
 module _ {n : ℕ} {xs ys : List ℕ} (k : Kept xs ys n n) where
-  same-word : (c i : ℕ) → wordOf ys (tableAt n) c i ≡ wordOf xs (tableAt n) c i
+  pub same-word : (c i : ℕ) → wordOf ys (tableAt n) c i ≡ wordOf xs (tableAt n) c i
   same-word c i = k .rest (tableAt n + 2 * i + c) (λ j l e. omega arith)
 
   there : {h x y : ℕ} → Near n xs h x y → Near n ys h x y

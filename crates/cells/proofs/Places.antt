@@ -1,9 +1,11 @@
 -- Sides counted by cells, size * q + i: each side has its own number, and every number below size * n is a side's. Assumes nothing.
 use mathlib.Core.Path.{_≡_, ap}
+use mathlib.Core.List.{List}
 use Prim.Native.Nat.{ℕ, zero, suc, _+_, _*_, _/_, _%_, _≤_, _<_}
-use native.Mathlib.Nat.{mul-zero, mul-add, mul-one, mul-le-mul-left, lt-of-mul-lt-mul-left, zero-mul, div-add-mod, mod-lt, mod-eq-of-lt, mod-self}
+use native.Mathlib.Nat.{mul-zero, mul-add, mul-one, mul-le-mul-left, lt-of-mul-lt-mul-left, zero-mul, div-add-mod, mod-lt, mod-eq-of-lt, mod-self, mod-mod}
 use native.Mathlib.Decide.{decLt}
 use native.Mathlib.Omega.{arith}
+use Rattle.cells.specs.Cells.{cell}
 
 pub first-place : (size : ℕ) → size * 0 + 0 ≡ 0
 first-place size = omega (arith, mul-zero size)
@@ -45,3 +47,7 @@ round-at-last size i e = rw e (mod-self size)
 
 pub round-before-last : (size i : ℕ) → i < size → (i + 1 ≡ size → ⊥) → (i + 1) % size ≡ i + 1
 round-before-last size i h n = mod-eq-of-lt (omega (arith, n))
+
+-- a cell's corners are counted round, so the next is the same before the count is brought below the size and after
+pub next-corner : (size : ℕ) (cells : List ℕ) (q i : ℕ) → cell size cells q ((i + 1) % size) ≡ cell size cells q (i + 1)
+next-corner size cells q i = rw (mod-mod (i + 1) size)

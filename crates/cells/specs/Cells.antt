@@ -10,12 +10,12 @@ use lib.ListN.{length, getD}
 abbrev pub Cell : Type 0
 Cell = ℕ → ℕ
 
--- a cell of the size has a side that runs from x to y
+-- a cell of the size has a side that runs from x to y: from a corner to the next, counted round
 pub record Side (size : ℕ) (c : Cell) (x y : ℕ) : Type 0 where
   pub at : ℕ
   pub small : at < size
   pub starts : c at ≡ x
-  pub ends : c (at + 1) ≡ y
+  pub ends : c ((at + 1) % size) ≡ y
 
 -- a side of p and a side of q join the same two corners, whichever way each runs
 pub data Touch (size : ℕ) (p q : Cell) : Type 0 where
@@ -38,3 +38,7 @@ module _ (size : ℕ) (cells : List ℕ) where
     pub from-among : among p ≡ true
     pub to-among : among q ≡ true
     pub touch : Touch size (cell p) (cell q)
+
+-- where every cell takes part
+abbrev pub everyone : ℕ → Bool
+everyone q = true

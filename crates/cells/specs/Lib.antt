@@ -3,3 +3,11 @@ pub mod Groups
 pub mod Forest
 pub mod Table
 pub mod Sides
+pub mod Kind
+pub mod Quads
+pub mod Listed
+pub mod Holes
+pub mod Twin
+pub mod Computed
+pub mod Check
+pub mod Example

@@ -7,10 +7,10 @@ use Prim.Native.Nat.{ℕ, _+_, _*_, _-_, _/_, _≤_, _<_, min, max}
 use lib.ListN.{length, getD, take, drop}
 use Rattle.words.specs.Regions.{Kept}
 use Rattle.words.specs.Order.{wordOf}
-use Rattle.cells.specs.Cells.{cell}
+use Rattle.cells.specs.Cells.{cell, Neighbours}
 use Rattle.cells.specs.Groups.{Groups}
 use Rattle.cells.specs.Forest.{Classes}
-use Rattle.cells.specs.Table.{unmarked, groupsAt, tableAt}
+use Rattle.cells.specs.Table.{unmarked, groupsAt, tableAt, groupsEnd}
 
 -- the key and the number of record k
 abbrev pub keyAt : ℕ → List ℕ → ℕ → ℕ
@@ -45,16 +45,19 @@ module _ (size : ℕ) (cells : List ℕ) where
       pub kept : Kept xs ys (tableAt n) (2 * (size * n))
       pub stands : (q i : ℕ) → i < size → q < n → size * q + i < t → Stands (size * q + i) q i
 
-    -- each record is of a side, each side has a record, and their keys ascend; all before the table, and all past the room for its
-    -- ordering, is as it was
-    pub record Listed : Type 0 where
-      pub kept : Kept xs ys (tableAt n) (4 * (size * n))
+    -- each record is of a side, each side has a record, and their keys ascend
+    pub record InTable : Type 0 where
       pub cellOf : ℕ → ℕ
       pub sideOf : ℕ → ℕ
       pub placeOf : ℕ → ℕ → ℕ
       pub is : (k : ℕ) → k < size * n → Stands k (cellOf k) (sideOf k)
       pub at : (q i : ℕ) → q < n → i < size → Stands (placeOf q i) q i
       pub ascends : (j k : ℕ) → j ≤ k → k < size * n → keyAt n ys j ≤ keyAt n ys k
+
+    -- the table is in order; all before it, and all past the room for its ordering, is as it was
+    pub record Listed : Type 0 where
+      pub kept : Kept xs ys (tableAt n) (4 * (size * n))
+      pub table : InTable
 
 -- records i and i + 1, for some i below k, have one key, and not 0; they are of cells x and y
 pub record Near (n : ℕ) (ys : List ℕ) (k x y : ℕ) : Type 0 where
@@ -84,3 +87,12 @@ pub record United (n k : ℕ) (xs ys : List ℕ) : Type 0 where
 pub record Named (n k : ℕ) (xs ys : List ℕ) : Type 0 where
   pub kept : Kept xs ys (groupsAt n) n
   pub groups : Groups (Near n xs k) n (λ (q : ℕ). getD ys (groupsAt n + q) 0)
+
+-- the groups of the unmarked cells and the ordered table stand in their places; the marks, and all past the room for the table's
+-- ordering, are as they were
+pub record Grouped (size : ℕ) (cells : List ℕ) (n : ℕ) (xs ys : List ℕ) : Type 0 where
+  pub len : length ys ≡ length xs
+  pub marks : (k : ℕ) → k < n → getD ys k 0 ≡ getD xs k 0
+  pub groups : Groups (Neighbours size cells (unmarked xs)) n (λ (q : ℕ). getD ys (groupsAt n + q) 0)
+  pub table : InTable size cells n xs ys
+  pub rest : (k : ℕ) → groupsEnd size n ≤ k → getD ys k 0 ≡ getD xs k 0

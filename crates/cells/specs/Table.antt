@@ -5,8 +5,7 @@ use mathlib.Core.List.{List}
 use Prim.Native.Nat.{ℕ, _+_, _*_, _≤_, _<_}
 use lib.Dec.{eqb}
 use lib.ListN.{length, getD}
-use Rattle.cells.specs.Cells.{cell, Neighbours}
-use Rattle.cells.specs.Groups.{Groups}
+use Rattle.cells.specs.Cells.{cell}
 
 -- a cell takes part where its mark is 0
 abbrev pub unmarked : List ℕ → ℕ → Bool
@@ -37,10 +36,3 @@ pub record Sound (size : ℕ) (cells : List ℕ) (n : ℕ) : Type 0 where
   pub few : n ≤ 8192
   pub corners : Corners cells
   pub proper : (q i : ℕ) → q < n → i < size → cell size cells q i ≡ cell size cells q (i + 1) → ⊥
-
--- the groups of the unmarked cells stand in their place; the marks, and all past the table, are as they were
-pub record Grouped (size : ℕ) (cells : List ℕ) (n : ℕ) (xs ys : List ℕ) : Type 0 where
-  pub len : length ys ≡ length xs
-  pub marks : (k : ℕ) → k < n → getD ys k 0 ≡ getD xs k 0
-  pub groups : Groups (Neighbours size cells (unmarked xs)) n (λ (q : ℕ). getD ys (groupsAt n + q) 0)
-  pub rest : (k : ℕ) → groupsEnd size n ≤ k → getD ys k 0 ≡ getD xs k 0

@@ -1,4 +1,4 @@
-// Groups of cells: which are linked across shared sides.
+// Groups of cells: which are linked across shared sides; and, in specs/ and proofs/, the theory of labelling them.
 mod forest;
 pub mod inner;
 mod sides;

@@ -51,11 +51,11 @@ no-touch i j e = not-le-of-lt (low (i % 4) (omega arith)) (subst (λ (z : ℕ). 
 
 apart : Touch 4 (cell 4 (row .quads) 0) (cell 4 (row .quads) 2) → ⊥
 apart (alike a b) = no-touch (a .at) (b .at) (a .starts ∙ sym (b .starts))
-apart (opposite a b) = no-touch (a .at) (b .at + 1) (a .starts ∙ sym (b .ends))
+apart (opposite a b) = no-touch (a .at) ((b .at + 1) % 4) (a .starts ∙ sym (b .ends))
 
 apart-back : Touch 4 (cell 4 (row .quads) 2) (cell 4 (row .quads) 0) → ⊥
 apart-back (alike a b) = no-touch (b .at) (a .at) (b .starts ∙ sym (a .starts))
-apart-back (opposite a b) = no-touch (b .at) (a .at + 1) (b .starts ∙ sym (a .ends))
+apart-back (opposite a b) = no-touch (b .at) ((a .at + 1) % 4) (b .starts ∙ sym (a .ends))
 
 dropped : left row 1 ≡ false
 unfolding ofBits round add sub mul div lt le sigOf expOf units unitsOf greatest reaches rootPattern rootOf orZero lengthOf lengthBetween sideOf one equal incidence illegal crowded greaterOf lesserOf raised ratioOf uneven skewed left

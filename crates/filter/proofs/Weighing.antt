@@ -10,7 +10,8 @@ use Rattle.words.specs.Order.{wordOf, Ordered, groupedOf}
 use Rattle.words.proofs.Cuts.{ascends}
 use Rattle.cells.proofs.Groups.{groups-same}
 use Rattle.mesh.specs.Lists.{mostQuads}
-use Rattle.cells.specs.Table.{groupsAt, tableAt, Grouped}
+use Rattle.cells.specs.Table.{groupsAt, tableAt}
+use Rattle.cells.specs.Sides.{Grouped}
 use Rattle.filter.specs.Layout.{spareAt, lengthsAt, mediansAt}
 use Rattle.filter.specs.Steps.{Recorded, Rising, Centred, Middle, MiddleWord, Weighed}
 use Rattle.filter.proofs.Middle.{keyed, middle-word}

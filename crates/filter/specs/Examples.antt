@@ -1,5 +1,5 @@
 -- Document 01's examples marked P, in its order: one list, and one proof of it in proofs/Examples. It holds P lines and no others;
--- here are those on root, angle and filters, and the lines on labelling join them.
+-- the lines on labelling are cells' list `labelled`, each said by the definitions.
 use mathlib.Core.Path.{_≡_}
 use mathlib.Core.Bool.{true, false}
 use mathlib.Core.List.{List, [], _∷_}
@@ -10,6 +10,8 @@ use Rattle.measure.specs.declared.Measured.the-variants.{Known}
 use Rattle.measure.specs.Float.{bits, fraction}
 use Rattle.measure.specs.Angle.{angleOf}
 use Rattle.measure.specs.RootComputed.{rootOf}
+use Rattle.cells.specs.Listed.{In}
+use Rattle.cells.specs.Example.{Example, Says, labelled}
 use Rattle.filter.specs.Median.{Median}
 use Rattle.filter.specs.Topology.{incidence, illegal}
 
@@ -38,3 +40,6 @@ pub record Examples : Type 0 where
   pub in-five : (incidence five 0 ≡ 10) × (illegal five 0 ≡ true)
   -- sides 1, 1, 2, 2 have median 2
   pub median-of-1-1-2-2 : Median pairs (fraction 2 1)
+  -- quads 0 1 2 3 and 1 4 5 2; 0 1 2 3 and 1 2 5 4; 0 1 2 3, 0 3 4 5, 0 5 6 1; 0 1 2 3, 0 3 4 5, 0 5 6 7, 0 7 8 9, with least corners 9
+  -- and 8, and least quads 5
+  pub labels : (x : Example) → In x labelled → Says x

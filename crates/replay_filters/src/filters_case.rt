@@ -16,8 +16,12 @@ use vectors::word_at;
 
 fn write_answer(answer: Filtered) {
     match answer {
-        Filtered::Done(count) => write_count(count),
-        Filtered::Refused(why) => write_refusal(why),
+        Filtered::Done(count) => {
+            write_count(count);
+        }
+        Filtered::Refused(why) => {
+            write_refusal(why);
+        }
     }
 }
 

@@ -61,7 +61,9 @@ pub(crate) fn replay(text: &[u8], at: usize) -> usize
     );
     match answer {
         Cached::Known(cache) => write_cache(cache),
-        Cached::Refused(why) => write_refusal(why),
+        Cached::Refused(why) => {
+            write_refusal(why);
+        }
     }
     after(text, at, 7)
 }

@@ -18,7 +18,9 @@ fn write_answer(answer: Classified) {
         Classified::Done => {
             io::write_all(1, b"done\n");
         }
-        Classified::Refused(why) => write_refusal(why),
+        Classified::Refused(why) => {
+            write_refusal(why);
+        }
     }
 }
 

@@ -11,8 +11,12 @@ use vectors::inner::runs::write_runs;
 
 fn write_answer(answer: Merged) {
     match answer {
-        Merged::Done(count) => write_count(count),
-        Merged::Refused(why) => write_refusal(why),
+        Merged::Done(count) => {
+            write_count(count);
+        }
+        Merged::Refused(why) => {
+            write_refusal(why);
+        }
     }
 }
 

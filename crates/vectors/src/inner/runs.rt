@@ -1,18 +1,25 @@
-// Answers as lines: a refusal, and a list as runs: the length of each maximal run of equal words, and the word. What goes to standard
-// output no contract can say.
-ghost use Prim.Native.Nat.{_<_, _≤_};
+// Answers as lines: a refusal, a number of records, and a list as runs: the length of each maximal run of equal words, and the word.
+// What goes to standard output no contract can say; each answers how much its line tells.
+ghost use mathlib.Core.Path.{_≡_};
+ghost use Prim.Native.Nat.{_<_};
 ghost use lib.ListN.{length};
+ghost use Rattle.vectors.specs.Hex.{refusalLine};
+ghost use Rattle.vectors.specs.Lines.{countLine, runsOf, Run};
 use refusal::Refusal;
 
-pub fn write_refusal(why: Refusal) {
+// The line's number of bytes.
+pub fn write_refusal(why: Refusal) -> usize
+    ensures { λ r. ⌜ r ≡ length (refusalLine why) ⌝ }
+{
     let line = crate::refusal_line(why);
     io::write_all(1, &line);
+    line.len()
 }
 
 // Where the run that begins at `from` ends.
 fn run_end(list: &[u32], from: usize) -> usize
     requires { ⌜ from < length (now list) ⌝ }
-    ensures { λ r. ⌜ (from < r) × (r ≤ length (now (list .entry))) ⌝ }
+    ensures { λ r. ⌜ Run (now (list .entry)) from r ⌝ }
 {
     let word = list[from];
     let mut i = from + 1;
@@ -34,19 +41,30 @@ fn write_run(count: usize, word: u32, first: bool) {
     io::print_decimal(1, word as u64);
 }
 
-pub fn write_runs(list: &[u32]) {
+// How many runs the line tells.
+pub fn write_runs(list: &[u32]) -> usize
+    ensures { λ r. ⌜ r ≡ runsOf (now (list .entry)) ⌝ }
+{
+    let mut runs = 0;
     let mut at = 0;
     while at < list.len() {
         let end = run_end(list, at);
         write_run(end - at, list[at], at == 0);
+        runs += 1;
         at = end;
     }
     io::write_all(1, b"\n");
+    runs
 }
 
-// A number of records.
-pub fn write_count(count: u32) {
+// A number of records; answers the line's number of bytes.
+pub fn write_count(count: u32) -> usize
+    ensures { λ r. ⌜ r ≡ length (countLine count) ⌝ }
+{
+    let mut text = [0u8; 20];
+    let places = io::decimal(count as u64, &mut text);
     io::write_all(1, b"done ");
-    io::print_decimal(1, count as u64);
+    io::write_all(1, &text[..places]);
     io::write_all(1, b"\n");
+    places + 6
 }

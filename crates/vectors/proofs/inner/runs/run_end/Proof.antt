@@ -1,12 +1,14 @@
--- `run_end` is safe and ends: it stays after `from`.
-use Prim.Native.Nat.{_-_, _<_, _≤_}
+-- `run_end` passes the same word over, and ends at another or at the list's end.
+use Prim.Native.Nat.{_-_}
+use native.Mathlib.Omega.{arith}
 use lib.ListN.{length}
+use Rattle.vectors.proofs.Lines.{Passed, passed-first, passed-more, passed-run}
 use borrow.Author.Needs.{needs}
 use Rattle.vectors.proofs.inner.runs.run_end.Statement.{statement}
 use Rattle.vectors.proofs.inner.runs.run_end.Tie as tie
 
 abbrev Inv-loop : tie.InvT-loop
-Inv-loop list from word i₀ i = (from < i) × (i ≤ length list)
+Inv-loop list from word i₀ i = Passed list from i
 
 abbrev μ-loop : tie.MeasureT-loop
 μ-loop list from word i₀ i = length list - i
@@ -21,7 +23,7 @@ add-i : tie.Need-add-i Inv-loop μ-loop
 add-i c = search needs
 
 loop-holds : tie.Need-loop-holds Inv-loop μ-loop
-loop-holds c = search needs
+loop-holds c = passed-first _ _ (omega arith)
 
 mul-if1 : tie.Need-mul-if1 Inv-loop μ-loop
 mul-if1 c = search needs
@@ -30,7 +32,7 @@ shared-slice-read-if1 : tie.Need-shared-slice-read-if1 Inv-loop μ-loop
 shared-slice-read-if1 c = search needs
 
 returns : tie.Need-returns Inv-loop μ-loop
-returns c = search needs
+returns c = passed-run (c .before .before .before .loop .inv) (λ _. c .if1 .taken)
 
 add-i-2 : tie.Need-add-i-2 Inv-loop μ-loop
 add-i-2 c = search needs
@@ -39,10 +41,10 @@ loop-less : tie.Need-loop-less Inv-loop μ-loop
 loop-less c = search needs
 
 loop-again : tie.Need-loop-again Inv-loop μ-loop
-loop-again c = search needs
+loop-again c = passed-more (c .before .before .before .loop .inv) (c .before .before .loop-test .taken) (c .if1 .left)
 
 returns-2 : tie.Need-returns-2 Inv-loop μ-loop
-returns-2 c = search needs
+returns-2 c = passed-run (c .before .loop .inv) (λ l e. absurd (omega arith))
 
 pub run-end-spec : {M : Type 1} → statement M
 run-end-spec =

@@ -1,0 +1,158 @@
+-- The lines' counts: the fewest decimal digits are `placesIn` many, a run that is told adds one to the runs, and a run has one end.
+-- Assumes nothing.
+use mathlib.Core.Bool.{Bool, true, false}
+use mathlib.Core.Path.{_≡_, refl, sym, ap, _∙_, subst}
+use mathlib.Core.List.{List}
+use Prim.Native.Nat.{ℕ, zero, suc, _+_, _*_, _-_, _/_, _^_, _≤_, _<_}
+use native.Mathlib.Decide.{ℕ-discrete, decLt}
+use native.Mathlib.Numerals.{unary-clauses}
+use native.Mathlib.Omega.{arith}
+use borrow.Author.Tests.{eq-eqb, ne-eqb, ltb-true, ltb-false}
+use lib.Dec.{ltb}
+use lib.ListN.{length, getD, length-append}
+use Rattle.io.specs.Digits.{digits, Fewest}
+use Rattle.vectors.specs.Lines.{placesIn, countLine, beginsAt, runsTo, runsOf, Run}
+
+power-above : (j : ℕ) → j < 10 ^ j
+power-above zero = omega arith
+power-above (suc j) = let h = power-above j in simp unary-clauses (omega arith)
+
+-- a number has no more digits than it is great, but for 0
+pub fewest-below : (n k : ℕ) → Fewest 10 1 n k → k ≤ n + 1
+fewest-below n zero f = omega arith
+fewest-below n (suc zero) f = omega arith
+fewest-below n (suc (suc j)) f =
+    let h : 10 ^ j * 10 ≤ n = simp unary-clauses at (f .2 (omega arith)) in
+    omega (arith, power-above j)
+
+one-place : (n k : ℕ) → n < 10 → Fewest 10 1 n k → k ≡ 1
+one-place n zero l f = absurd (omega (arith, f .0))
+one-place n (suc zero) l f = refl
+one-place n (suc (suc j)) l f = let p = power-above j in let h : 10 ^ j * 10 ≤ n = simp unary-clauses at (f .2 (omega arith)) in absurd (omega arith)
+
+place-less : (n j : ℕ) → Fewest 10 1 n (suc (suc j)) → Fewest 10 1 (n / 10) (suc j)
+place-less n j f =
+    let h : 10 ^ j * 10 ≤ n = simp unary-clauses at (f .2 (omega arith)) in
+    let b : n < 10 ^ j * 10 * 10 = simp unary-clauses at (f .1) in
+    (omega arith, omega arith, λ l. simp unary-clauses (omega arith))
+
+places-by : (turns n k : ℕ) → n ≤ suc turns → Fewest 10 1 n k → ((m j : ℕ) → m ≤ turns → Fewest 10 1 m j → j ≡ placesIn turns m) → (t : Bool) → ltb n 10 ≡ t → k ≡ placesIn (suc turns) n
+unfolding placesIn
+places-by turns n k h f less true e = rw e (one-place n k (ltb-true n 10 e) f)
+places-by turns n zero h f less false e = absurd (omega (arith, f .0))
+places-by turns n (suc zero) h f less false e = absurd (omega (arith, f .1, ltb-false n 10 e))
+places-by turns n (suc (suc j)) h f less false e =
+    let l = ltb-false n 10 e in
+    rw e (ap suc (less (n / 10) (suc j) (omega arith) (place-less n j f)))
+
+fewest-places : (turns n k : ℕ) → n ≤ turns → Fewest 10 1 n k → k ≡ placesIn turns n
+unfolding placesIn
+fewest-places zero n k h f = one-place n k (omega arith) f
+fewest-places (suc turns) n k h f = places-by turns n k h f (λ m j l g. fewest-places turns m j l g) (ltb n 10) refl
+
+length-digits : (k n : ℕ) → length (digits 10 k n) ≡ k
+length-digits zero n = refl
+length-digits (suc k) n = simp length-append (rw (length-digits k (n / 10)) (omega arith))
+
+pub count-length : (count k : ℕ) → Fewest 10 1 count k → k + 6 ≡ length (countLine count)
+unfolding countLine
+count-length count k f =
+    let e = fewest-places count count k (omega arith) f in
+    simp (length-append, length-digits) (omega arith)
+
+-- at a place after the first, the same word as before begins no run, and another does
+begins-same : (list : List ℕ) (k : ℕ) → getD list (suc k) 0 ≡ getD list k 0 → beginsAt list (suc k) ≡ 0
+unfolding beginsAt
+begins-same list k e = rw (eq-eqb _ _ e)
+
+begins-other : (list : List ℕ) (k : ℕ) → (getD list (suc k) 0 ≡ getD list k 0 → ⊥) → beginsAt list (suc k) ≡ 1
+unfolding beginsAt
+begins-other list k n = rw (ne-eqb _ _ n)
+
+module _ {list : List ℕ} {from end : ℕ} (run : Run list from end) where
+  begins-next : end < length list → beginsAt list end ≡ 1
+  begins-next l = go end refl
+    where
+      go : (e : ℕ) → e ≡ end → beginsAt list e ≡ 1
+      go zero q = absurd (omega (arith, run .after))
+      go (suc k) q = begins-other list k (λ s. run .other l (subst (λ (j : ℕ). getD list j 0 ≡ getD list from 0) q (s ∙ run .same k (omega (arith, run .after)) (omega arith))))
+
+  runs-first : beginsAt list from ≡ 1 → (j : ℕ) → j ≡ from → runsTo list (suc j) ≡ runsTo list from + 1
+  unfolding runsTo
+  runs-first b j e = rw (e, b)
+
+  runs-step : (i : ℕ) → from ≤ i → suc i < end → runsTo list (suc i) ≡ runsTo list from + 1 → runsTo list (suc (suc i)) ≡ runsTo list from + 1
+  unfolding runsTo
+  runs-step i h l e = rw (begins-same list i (run .same (suc i) (omega arith) l ∙ sym (run .same i h (omega arith)))) (omega (arith, e))
+
+  runs-in : beginsAt list from ≡ 1 → (j : ℕ) → from ≤ j → j < end → runsTo list (suc j) ≡ runsTo list from + 1
+  runs-in b zero h l = runs-first b zero (omega arith)
+  runs-in b (suc i) h l = go (ℕ-discrete (suc i) from) (λ k. runs-in b i k (omega arith))
+    where
+      go : Dec (suc i ≡ from) → (from ≤ i → runsTo list (suc i) ≡ runsTo list from + 1) → runsTo list (suc (suc i)) ≡ runsTo list from + 1
+      go (yes e) less = runs-first b (suc i) e
+      go (no n) less = let k : from ≤ i = omega (arith, n) in runs-step i k l (less k)
+
+  runs-more : beginsAt list from ≡ 1 → runsTo list end ≡ runsTo list from + 1
+  runs-more b =
+      let a = run .after in
+      let e : suc (end - 1) ≡ end = omega arith in
+      subst (λ (j : ℕ). runsTo list j ≡ runsTo list from + 1) e (runs-in b (end - 1) (omega arith) (omega arith))
+
+-- so many runs are told before `at`, where the next begins or the list ends
+pub record Told (list : List ℕ) (runs at : ℕ) : Type 0 where
+  pub within : at ≤ length list
+  pub few : runs ≤ at
+  pub count : runs ≡ runsTo list at
+  pub begins : at < length list → beginsAt list at ≡ 1
+
+pub told-none : (list : List ℕ) → Told list 0 0
+unfolding runsTo beginsAt
+told-none list = record { within = omega arith; few = omega arith; count = refl; begins = λ l. refl }
+
+pub told-more : {list : List ℕ} {runs at end : ℕ} → Told list runs at → Run list at end → Told list (runs + 1) end
+told-more {list} {runs} {at} {end} told run =
+    let a = run .after in record {
+      within = run .within;
+      few = omega (arith, told .few);
+      count = ap (λ (n : ℕ). n + 1) (told .count) ∙ sym (runs-more run (told .begins (omega (arith, run .within))));
+      begins = begins-next run;
+    }
+
+pub told-all : {list : List ℕ} {runs at : ℕ} → Told list runs at → length list ≤ at → runs ≡ runsOf list
+told-all {list} {runs} {at} told h =
+    let e : at ≡ length list = omega (arith, told .within) in
+    told .count ∙ ap (runsTo list) e
+
+-- from `from` up to i stands one word
+pub record Passed (list : List ℕ) (from i : ℕ) : Type 0 where
+  pub after : from < i
+  pub within : i ≤ length list
+  pub same : (k : ℕ) → from ≤ k → k < i → getD list k 0 ≡ getD list from 0
+
+pub passed-first : (list : List ℕ) (from : ℕ) → from < length list → Passed list from (from + 1)
+passed-first list from h = record {
+  after = omega arith;
+  within = omega arith;
+  same = λ k a b. let e : k ≡ from = omega arith in ap (λ (j : ℕ). getD list j 0) e;
+}
+
+pub passed-more : {list : List ℕ} {from i : ℕ} → Passed list from i → i < length list → getD list i 0 ≡ getD list from 0 → Passed list from (i + 1)
+passed-more {list} {from} {i} p h e = record { after = omega (arith, p .after); within = omega arith; same = λ k a b. go k a b (ℕ-discrete k i) }
+  where
+    go : (k : ℕ) → from ≤ k → k < i + 1 → Dec (k ≡ i) → getD list k 0 ≡ getD list from 0
+    go k a b (yes q) = ap (λ (j : ℕ). getD list j 0) q ∙ e
+    go k a b (no n) = p .same k a (omega (arith, n))
+
+-- what is passed is a run where another word follows, or none
+pub passed-run : {list : List ℕ} {from i : ℕ} → Passed list from i → (i < length list → getD list i 0 ≡ getD list from 0 → ⊥) → Run list from i
+passed-run p n = record { after = p .after; within = p .within; same = p .same; other = n }
+
+-- a run has one end
+pub one-end : {list : List ℕ} {from a b : ℕ} → Run list from a → Run list from b → a ≡ b
+one-end {list} {from} {a} {b} p q = go (decLt a b) (decLt b a)
+  where
+    go : Dec (a < b) → Dec (b < a) → a ≡ b
+    go (yes l) _ = absurd (p .other (omega (arith, q .within)) (q .same a (omega (arith, p .after)) l))
+    go (no _) (yes l) = absurd (q .other (omega (arith, p .within)) (p .same b (omega (arith, q .after)) l))
+    go (no l) (no m) = omega (arith, l, m)

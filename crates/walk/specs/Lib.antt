@@ -1,0 +1,14 @@
+pub mod Layout
+pub mod Invariant
+pub mod Settling
+pub mod Moves
+pub mod Answers
+pub mod Input
+pub mod Call
+pub mod Fates
+pub mod Emitted
+pub mod Runs
+pub mod Prepared
+pub mod Gathering
+pub mod Singles
+pub mod Emitting
