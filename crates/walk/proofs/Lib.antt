@@ -33,3 +33,14 @@ pub mod Counting
 pub mod Extent
 pub mod Pasting
 pub mod Writing
+pub mod Determined
+pub mod ReadBack
+pub mod Origins
+pub mod Spread
+pub mod ByPlace
+pub mod Success
+pub mod Reasons
+pub mod Demand
+pub mod Sound
+pub mod Computing
+pub mod Outcomes

@@ -12,3 +12,6 @@ pub mod Prepared
 pub mod Gathering
 pub mod Singles
 pub mod Emitting
+pub mod Read
+pub mod Demanded
+pub mod Computed

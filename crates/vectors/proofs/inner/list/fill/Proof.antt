@@ -1,8 +1,6 @@
 -- `fill` lays the elements of a list, one a turn.
-use mathlib.Core.Path.{_≡_}
 use Prim.Native.Nat.{_-_, _≤_}
 use native.Mathlib.Omega.{arith}
-use lib.ListN.{length}
 use Rattle.vectors.specs.Lists.{elementOf, Laid, front}
 use Rattle.vectors.proofs.Laying.{laid-none, laid-more, laid-all}
 use borrow.Author.Needs.{needs}

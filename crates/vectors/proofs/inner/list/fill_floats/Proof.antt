@@ -1,9 +1,8 @@
 -- `fill_floats` lays the elements of a list, one a turn.
-use mathlib.Core.Path.{_≡_, ap, _∙_}
+use mathlib.Core.Path.{ap, _∙_}
 use Prim.Native.Nat.{ℕ, _-_, _≤_}
 use native.Mathlib.Omega.{arith}
 use lib.Ieee.{nan, binary32, ofBits}
-use lib.ListN.{length}
 use Rattle.vectors.specs.Lists.{elementOf, Laid, front}
 use Rattle.vectors.proofs.Laying.{laid-none, laid-more, laid-all}
 use borrow.Author.Needs.{needs}

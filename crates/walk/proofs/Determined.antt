@@ -1,0 +1,85 @@
+-- The call has one outcome (`determined`): the rows decide, an input has one grouping of its quads, and a grouping one list of components,
+-- which depends on the groups' numbers of its cells alone. Assumes nothing.
+use mathlib.Core.Path.{_≡_, refl, sym, ap, _∙_}
+use mathlib.Core.List.{List}
+use Prim.Native.Nat.{ℕ, zero, suc, _≤_, _<_}
+use native.Mathlib.Omega.{arith}
+use lib.ListN.{length}
+use Rattle.refusal.specs.declared.Gate.{Gate}
+use Rattle.refusal.specs.declared.Gate.the-variants.{Open, Shut}
+use Rattle.refusal.specs.declared.Refusal.{Refusal}
+use Rattle.refusal.specs.Rows.{_then_}
+use Rattle.words.specs.Sorting.{equal}
+use Rattle.cells.specs.Kind.{Pair, Kind}
+use Rattle.cells.specs.Quads.{quads}
+use Rattle.cells.specs.Listed.{Entry, Grouping, members, Labelling, Component, Dropped, Components}
+use Rattle.cells.specs.Listed.Dropped.{few-cells, no-labelling, few-corners}
+use Rattle.cells.specs.Listed.Components.{start, within, dropped, kept}
+use Rattle.cells.proofs.Groups.{one-answer}
+use Rattle.cells.proofs.Squares.{quad-laws}
+use Rattle.cells.proofs.Yields.{components-determined}
+use Rattle.walk.specs.declared.Labelled.the-variants.{Refused}
+use Rattle.walk.specs.Input.{Input, quadCount, GroupsOf, grouping, Answer}
+use Rattle.walk.specs.Call.{allEntries, entryGate, roomRow, entriesRow, Outcome, outcomeBy, Allowed}
+use Rattle.walk.specs.Call.Allowed.{refused, labelled}
+
+-- ---- two numberings that agree below n
+
+equal-same : (d f : ℕ → ℕ) (n v : ℕ) → ((q : ℕ) → q < n → d q ≡ f q) → equal d n v ≡ equal f n v
+unfolding equal
+equal-same d f zero v h = refl
+equal-same d f (suc n) v h = rw (equal-same d f n v (λ q l. h q (omega arith)), h n (omega arith))
+
+abbrev numbered : (n few least : ℕ) → (ℕ → ℕ) → Grouping
+numbered n few least number = record { n = n; number = number; least-cells = few; least-corners = least }
+
+module _ (k : Kind) (cells : List ℕ) (n few least : ℕ) where
+  labelling-same : (number other : ℕ → ℕ) → ((q : ℕ) → q < n → number q ≡ other q) → {s : ℕ} {L : ℕ → Pair} → Labelling k cells (numbered n few least number) s L → Labelling k cells (numbered n few least other) s L
+  labelling-same number other same m = record {
+    clear = record { clear = λ p q r lp lq lr ep eq er. m .clear .clear p q r lp lq lr (same p lp ∙ ep) (same q lq ∙ eq) (same r lr ∙ er) };
+    fits = m .fits;
+  }
+
+  module _ (number other : ℕ → ℕ) (same : (q : ℕ) → q < n → number q ≡ other q) where
+    enough-same : (s : ℕ) → few ≤ members k cells (numbered n few least number) s → few ≤ members k cells (numbered n few least other) s
+    enough-same s l = omega (arith, equal-same number other n s same)
+
+    component-same : {s : ℕ} {es : List Entry} → Component k cells (numbered n few least number) s es → Component k cells (numbered n few least other) s es
+    component-same {s} c = record { enough = enough-same s (c .enough); L = c .L; labelling = labelling-same number other same (c .labelling); listed = c .listed; corners = c .corners }
+
+    dropped-same : {s : ℕ} → Dropped k cells (numbered n few least number) s → Dropped k cells (numbered n few least other) s
+    dropped-same {s} (few-cells l) = few-cells (omega (arith, equal-same number other n s same))
+    dropped-same {s} (no-labelling l r) = no-labelling (enough-same s l) (λ L m. r L (labelling-same other number (λ q b. sym (same q b)) m))
+    dropped-same {s} (few-corners l L m es o c) = few-corners (enough-same s l) L (labelling-same number other same m) es o c
+
+    components-same : (m : ℕ) (out : List (List Entry)) → m ≤ n → Components k cells (numbered n few least number) m out → Components k cells (numbered n few least other) m out
+    components-same m out b start = start
+    components-same m out b (within {m = p} c e) = within (components-same p out (omega arith) c) (λ f. e (same p (omega arith) ∙ f))
+    components-same m out b (dropped {m = p} c e d) = dropped (components-same p out (omega arith) c) (sym (same p (omega arith)) ∙ e) (dropped-same d)
+    components-same m out b (kept {m = p} {out = rest} c e d) = kept (components-same p rest (omega arith) c) (sym (same p (omega arith)) ∙ e) (component-same d)
+
+-- ---- the answer
+
+-- the components under any numbering of the groups
+pub components-under : (i : Input) (out : List (List Entry)) (number : ℕ → ℕ) → GroupsOf i number → Answer i out → Components quads (i .quads) (grouping i number) (quadCount i) out
+components-under i out number G a =
+    components-same quads (i .quads) (quadCount i) (i .params .quads) (i .params .corners) (a .number) number (λ q l. one-answer (a .groups) G l) (quadCount i) out (omega arith) (a .components)
+
+one-out : (i : Input) (out other : List (List Entry)) → Answer i out → Answer i other → out ≡ other
+one-out i out other a b = components-determined quads (i .quads) (grouping i (b .number)) quad-laws (components-under i out (b .number) (b .groups) a) (b .components)
+
+-- ---- the outcome
+
+shut-open : (g : Gate) (why : Refusal) → g ≡ Shut why → g ≡ Open → ⊥
+shut-open g why e f = let z : _≡_ {A = ℕ} 0 1 = cc in omega arith
+
+one-why : (g : Gate) (why other : Refusal) → g ≡ Shut why → g ≡ Shut other → why ≡ other
+one-why g why other e f = let z : Shut why ≡ Shut other = sym e ∙ f in cc
+
+pub determined : (i : Input) (work components entries : List ℕ) (o p : Outcome) → Allowed i work components entries o → Allowed i work components entries p → o ≡ p
+determined i work components entries o p (refused why e) (refused other f) =
+    ap (λ (w : Refusal). record { answer = Refused w; work = work; components = components; entries = entries }) (one-why (entryGate i (length work)) why other e f)
+determined i work components entries o p (refused why e) (labelled f out a) = absurd (shut-open (entryGate i (length work)) why e f)
+determined i work components entries o p (labelled e out a) (refused why f) = absurd (shut-open (entryGate i (length work)) why f e)
+determined i work components entries o p (labelled e out a) (labelled f other b) =
+    ap (λ (l : List (List Entry)). outcomeBy (roomRow (length components) (length l) then entriesRow (length entries) (length (allEntries l))) l work components entries) (one-out i out other a b)
