@@ -2,6 +2,7 @@
 // The declarations follow crates/abi/src/lib.rt; nothing checks them against it.
 
 use frame::Frame;
+use oracle::calls::Given;
 
 #[repr(C)]
 #[derive(Clone, Copy)]
@@ -26,6 +27,15 @@ struct Count {
     count: u32,
 }
 
+#[repr(C)]
+#[derive(Clone, Copy)]
+struct Counts {
+    refused: u32,
+    place: u32,
+    components: u32,
+    entries: u32,
+}
+
 extern "C" {
     fn ngeunsadok_root(x: f32) -> Number;
     fn ngeunsadok_angle(dx: f32, dy: f32) -> Number;
@@ -45,6 +55,19 @@ extern "C" {
         kept: *mut u32,
         kept_words: usize,
     ) -> Count;
+    fn ngeunsadok_label_components(
+        quads: *const u32,
+        quad_words: usize,
+        corners: u32,
+        least_quads: u32,
+        least_corners: u32,
+        work: *mut u32,
+        work_words: usize,
+        components: *mut u32,
+        component_words: usize,
+        entries: *mut u32,
+        entry_words: usize,
+    ) -> Counts;
 }
 
 /// A number, or the refusal's number and place.
@@ -99,6 +122,32 @@ pub fn filter_quads(frame: &Frame, quads: &[u32], work: &mut [u32], kept: &mut [
     };
     if told.refused == 0 {
         Ok(told.count as usize)
+    } else {
+        Err((told.refused, told.place))
+    }
+}
+
+/// How many components and entries there are, or the refusal's number and place.
+pub type Labelled = Result<[usize; 2], (u32, u32)>;
+
+pub fn label_components(given: &Given, work: &mut [u32], components: &mut [u32], entries: &mut [u32]) -> Labelled {
+    let told = unsafe {
+        ngeunsadok_label_components(
+            given.quads.as_ptr(),
+            given.quads.len(),
+            given.corners,
+            given.least_quads,
+            given.least_corners,
+            work.as_mut_ptr(),
+            work.len(),
+            components.as_mut_ptr(),
+            components.len(),
+            entries.as_mut_ptr(),
+            entries.len(),
+        )
+    };
+    if told.refused == 0 {
+        Ok([told.components as usize, told.entries as usize])
     } else {
         Err((told.refused, told.place))
     }

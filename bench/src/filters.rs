@@ -10,10 +10,10 @@ use ruled::Filtering;
 use std::hint::black_box;
 use std::time::Instant;
 
-const ROUNDS: usize = 200;
+pub const ROUNDS: usize = 200;
 
 /// Microseconds of the best round; what a round needs is made before its time begins.
-fn best<T>(make: impl Fn() -> T, mut call: impl FnMut(T) -> usize) -> f64 {
+pub fn best<T, R>(make: impl Fn() -> T, mut call: impl FnMut(T) -> R) -> f64 {
     let mut least = f64::INFINITY;
     for _ in 0..ROUNDS {
         let own = make();

@@ -3,16 +3,20 @@
 mod archive;
 mod check;
 mod check_filters;
+mod check_labels;
 mod filters;
+mod labels;
 mod numbers;
 
 const HELP: &str = "\
 bench numbers                 time per root, angle and distance beside the Rust's
 bench filters                 time of the filters beside the Rust's
+bench labels                  time of the labelling beside the Rust's
 bench check roots             every f32's root beside the machine's own
 bench check pairs COUNT SEED  angles and distances beside document 01's rules in Rust
 bench check filters COUNT SEED
-                              the filters on drawn lists beside the ruled Rust, every word";
+                              the filters on drawn lists beside the ruled Rust, every word
+bench check labels COUNT SEED the labelling on drawn lists beside the Rust's walk, every word";
 
 fn number(word: Option<&String>, otherwise: u64) -> u64 {
     word.and_then(|w| w.parse().ok()).unwrap_or(otherwise)
@@ -24,8 +28,10 @@ fn main() {
     match named.as_slice() {
         ["numbers"] => numbers::run(),
         ["filters"] => filters::run(),
+        ["labels"] => labels::run(),
         ["check", "roots"] => check::roots(),
         ["check", "filters", ..] => check_filters::run(number(words.get(2), 100_000), number(words.get(3), 1)),
+        ["check", "labels", ..] => check_labels::run(number(words.get(2), 100_000), number(words.get(3), 1)),
         ["check", "pairs", ..] => check::pairs(number(words.get(2), 100_000_000), number(words.get(3), 1)),
         _ => println!("{HELP}"),
     }

@@ -133,6 +133,27 @@ impl Filtering {
     }
 }
 
+/// The labelling with its quads already in the original's own form, to be timed alone.
+pub struct Labelling {
+    quads: Vec<Quad>,
+    least: [usize; 2],
+}
+
+impl Labelling {
+    pub fn of(quads: &[[u32; 4]], least_quads: u32, least_corners: u32) -> Labelling {
+        Labelling {
+            quads: own_quads(quads),
+            least: [least_quads as usize, least_corners as usize],
+        }
+    }
+
+    /// How many components there are, and how many corners they list.
+    pub fn run(&self) -> [usize; 2] {
+        let found = label_components(&self.quads, self.least[0], self.least[1]);
+        [found.len(), found.iter().map(|component| component.labelled.len()).sum()]
+    }
+}
+
 fn caches(frame: &Frame) -> Vec<AxisCache> {
     build_axis_caches(&features(frame), frame.params.spread_limit)
 }

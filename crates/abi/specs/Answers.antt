@@ -12,9 +12,14 @@ use Rattle.filter.specs.declared.Filtered.{Filtered}
 use Rattle.filter.specs.declared.Filtered.the-variants as filtered
 use Rattle.filter.specs.Input.{Input}
 use Rattle.filter.specs.Call.{Allowed}
+use Rattle.walk.specs.declared.Labelled.{Labelled}
+use Rattle.walk.specs.declared.Labelled.the-variants as labelled
+use Rattle.walk.specs.Input as walk
+use Rattle.walk.specs.Call as walk-call
 use Rattle.abi.specs.declared.Number.{Number}
 use Rattle.abi.specs.declared.Apart.{Apart}
 use Rattle.abi.specs.declared.Count.{Count}
+use Rattle.abi.specs.declared.Counts.{Counts}
 
 abbrev pub numberFrom : Measured → Number
 numberFrom (Known x) = record { refused = 0; place = 0; value = x }
@@ -33,3 +38,13 @@ pub record FilterTold (i : Input) (work kept : List ℕ) (told : Count) (workAft
   pub answer : Filtered
   pub tells : told ≡ countFrom answer
   pub allowed : Allowed i work kept (record { answer = answer; work = workAfter; kept = keptAfter })
+
+abbrev pub countsFrom : Labelled → Counts
+countsFrom (labelled.Done m n) = record { refused = 0; place = 0; components = m; entries = n }
+countsFrom (labelled.Refused why) = record { refused = numberOf why; place = placeOf why; components = 0; entries = 0 }
+
+-- what is told of the labelling, and the three lists after, are an outcome that the call allows
+pub record LabelTold (i : walk.Input) (work components entries : List ℕ) (told : Counts) (workAfter componentsAfter entriesAfter : List ℕ) : Type 0 where
+  pub answer : Labelled
+  pub tells : told ≡ countsFrom answer
+  pub allowed : walk-call.Allowed i work components entries (record { answer = answer; work = workAfter; components = componentsAfter; entries = entriesAfter })

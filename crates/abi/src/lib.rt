@@ -3,11 +3,13 @@ ghost use mathlib.Core.Path.{_≡_};
 ghost use Rattle.measure.specs.Angle.{angleOf};
 ghost use Rattle.measure.specs.Distance.{distanceOf};
 ghost use Rattle.measure.specs.RootComputed.{rootOf};
-ghost use Rattle.abi.specs.Answers.{numberFrom, apartFrom, countFrom, FilterTold};
+ghost use Rattle.abi.specs.Answers.{numberFrom, apartFrom, countFrom, FilterTold, countsFrom, LabelTold};
 use filter::FilterParams;
 use filter::Filtered;
 use measure::Distance;
 use measure::Measured;
+use walk::LabelParams;
+use walk::Labelled;
 
 // refused is 0 beside a value; else it is the refusal's number, place its place, and value 0.
 #[repr(C)]
@@ -30,6 +32,15 @@ pub struct Count {
     pub refused: u32,
     pub place: u32,
     pub count: u32,
+}
+
+// refused is 0 beside the counts; else it is the refusal's number, place its place, and the counts 0.
+#[repr(C)]
+pub struct Counts {
+    pub refused: u32,
+    pub place: u32,
+    pub components: u32,
+    pub entries: u32,
 }
 
 fn tell_number(answer: Measured) -> Number
@@ -78,6 +89,25 @@ fn tell_filtered(answer: Filtered) -> Count
     }
 }
 
+fn tell_labelled(answer: Labelled) -> Counts
+    ensures { λ r. ⌜ r ≡ countsFrom answer ⌝ }
+{
+    match answer {
+        Labelled::Done(components, entries) => Counts {
+            refused: 0,
+            place: 0,
+            components,
+            entries,
+        },
+        Labelled::Refused(why) => Counts {
+            refused: refusal::number(why),
+            place: refusal::place(why),
+            components: 0,
+            entries: 0,
+        },
+    }
+}
+
 #[no_mangle]
 pub extern "C" fn ngeunsadok_root(x: f32) -> Number
     ensures { λ r. ⌜ r ≡ numberFrom (rootOf x) ⌝ }
@@ -119,4 +149,23 @@ pub extern "C" fn ngeunsadok_filter_quads(
         greatest,
     };
     tell_filtered(filter::filter_quads(x, y, quads, params, work, kept))
+}
+
+#[no_mangle]
+pub extern "C" fn ngeunsadok_label_components(
+    quads: &[u32],
+    corners: u32,
+    least_quads: u32,
+    least_corners: u32,
+    work: &mut [u32],
+    components: &mut [u32],
+    entries: &mut [u32],
+) -> Counts
+    ensures { λ r. ⌜ LabelTold (record { quads = now (quads .entry); corners = corners; params = record { quads = «least_quads»; corners = «least_corners» } }) (now (work .entry)) (now (components .entry)) (now (entries .entry)) r (now (work .exit)) (now (components .exit)) (now (entries .exit)) ⌝ }
+{
+    let params = LabelParams {
+        quads: least_quads,
+        corners: least_corners,
+    };
+    tell_labelled(walk::label_components(quads, corners, params, work, components, entries))
 }

@@ -2,8 +2,10 @@
 // leaves the list as it was.
 
 mod filters;
+mod labels;
 
 pub use filters::{filters, words_wanted};
+pub use labels::{labels, Given};
 
 use crate::judge::{counts, first_of, missing_corner, positions, repeated_corner, twins, Refusal};
 use frame::{AxisPair, Frame};

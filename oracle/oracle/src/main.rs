@@ -18,6 +18,7 @@ oracle gap COUNT SEED          gap between document 01's numbers and the origina
 oracle vectors numbers DIR     vectors of the number calls, written into DIR
 oracle vectors stages DIR      vectors of axis cache, classes and quads, written into DIR
 oracle vectors filters DIR     vectors of the filters, written into DIR
+oracle vectors labels DIR      vectors of the labelling, written into DIR
 oracle help                    this list
 ";
 

@@ -3,4 +3,4 @@
 include!(concat!(env!("OUT_DIR"), "/tree.rs"));
 
 pub use cluster::angular_dist_pi;
-pub use topological::driver::{filter, label, run};
+pub use topological::driver::{filter, label, run, Labelling};

@@ -1,7 +1,8 @@
-// oracle vectors numbers DIR, and the same for stages and filters: the vectors of the calls.
+// oracle vectors numbers DIR, and the same for stages, filters and labels: the vectors of the calls.
 
 use super::Outcome;
 use oracle::vectors::filters::write_filters;
+use oracle::vectors::labels::write_labels;
 use oracle::vectors::stages::write_stages;
 use oracle::vectors::write_numbers;
 use std::io;
@@ -24,15 +25,21 @@ fn filters(folder: &Path) -> io::Result<()> {
     Ok(())
 }
 
+fn labels(folder: &Path) -> io::Result<()> {
+    print!("{}", write_labels(folder)?);
+    Ok(())
+}
+
 pub fn run(args: &[String]) -> Outcome {
     let [which, folder] = args else {
-        return Err("vectors numbers DIR, vectors stages DIR or vectors filters DIR".to_string());
+        return Err("vectors numbers, stages, filters or labels, then DIR".to_string());
     };
     let written = match which.as_str() {
         "numbers" => numbers(folder.as_ref()),
         "stages" => stages(folder.as_ref()),
         "filters" => filters(folder.as_ref()),
-        _ => return Err(format!("no vectors {which}; there are numbers, stages and filters")),
+        "labels" => labels(folder.as_ref()),
+        _ => return Err(format!("no vectors {which}; there are numbers, stages, filters, labels")),
     };
     written.map_err(|e| format!("{folder}: {e}"))
 }

@@ -1,4 +1,4 @@
-// The form that the vectors of stages and of filters share: words in the data files, and the
+// The form that the vectors of stages, filters and labels share: words in the data files, and the
 // lines of an answer.
 
 use crate::judge::Refusal;
@@ -25,6 +25,13 @@ pub fn add_list(words: &mut Vec<u32>, list: &[u32]) {
     let (given, fill) = if run > 1 { (list.len() - run, last) } else { (list.len(), 0) };
     words.extend([list.len() as u32, given as u32, fill]);
     words.extend(&list[..given]);
+}
+
+/// The shortest front of a list that gives it when it is said over and over.
+pub fn said_over(list: &[u32]) -> &[u32] {
+    let gives = |size: &usize| list[*size..].iter().zip(list).all(|(word, again)| word == again);
+    let size = (1..=list.len()).find(gives).unwrap_or(0);
+    &list[..size]
 }
 
 /// The words as text: eight digits each, a blank between, a line feed after the last.

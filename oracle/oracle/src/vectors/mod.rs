@@ -1,10 +1,11 @@
-// Vectors for the number calls, the stage calls and the filters: inputs and the answers that
-// document 01 gives.
+// Vectors for the number calls, the stage calls, the filters and the labelling: inputs and the
+// answers that document 01 gives.
 
 mod angles;
 mod distances;
 pub mod filters;
 mod form;
+pub mod labels;
 mod pack;
 mod roots;
 pub mod stages;

@@ -1,7 +1,7 @@
 // A case: one call's whole input.
 
 use crate::calls::words_wanted;
-use crate::vectors::form::{add_list, bits, untouched};
+use crate::vectors::form::{add_list, bits, said_over, untouched};
 use frame::{Frame, Params};
 
 /// The number that begins the case in a file; those below it are the stages'.
@@ -15,13 +15,6 @@ pub struct Case {
     pub quads: Vec<u32>,
     pub work: Vec<u32>,
     pub kept: Vec<u32>,
-}
-
-/// The shortest front of a list that gives it when it is said over and over.
-fn said_over(list: &[u32]) -> &[u32] {
-    let gives = |size: &usize| list[*size..].iter().zip(list).all(|(word, again)| word == again);
-    let size = (1..=list.len()).find(gives).unwrap_or(0);
-    &list[..size]
 }
 
 impl Case {
