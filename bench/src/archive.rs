@@ -3,6 +3,7 @@
 
 use frame::Frame;
 use oracle::calls::Given;
+use oracle::judge::Refusal;
 
 #[repr(C)]
 #[derive(Clone, Copy)]
@@ -70,25 +71,25 @@ extern "C" {
     ) -> Counts;
 }
 
-/// A number, or the refusal's number and place.
-pub type Measured = Result<f32, (u32, u32)>;
-
-fn measured(n: Number) -> Measured {
-    if n.refused == 0 {
-        Ok(n.value)
+/// What a call gives where it does not refuse.
+fn told<T>(refused: u32, place: u32, given: T) -> Result<T, Refusal> {
+    if refused == 0 {
+        Ok(given)
     } else {
-        Err((n.refused, n.place))
+        Err(Refusal { row: refused, place })
     }
 }
 
 #[inline]
-pub fn root(x: f32) -> Measured {
-    measured(unsafe { ngeunsadok_root(x) })
+pub fn root(x: f32) -> Result<f32, Refusal> {
+    let root = unsafe { ngeunsadok_root(x) };
+    told(root.refused, root.place, root.value)
 }
 
 #[inline]
-pub fn angle(dx: f32, dy: f32) -> Measured {
-    measured(unsafe { ngeunsadok_angle(dx, dy) })
+pub fn angle(dx: f32, dy: f32) -> Result<f32, Refusal> {
+    let angle = unsafe { ngeunsadok_angle(dx, dy) };
+    told(angle.refused, angle.place, angle.value)
 }
 
 #[inline]
@@ -97,13 +98,10 @@ pub fn distance(angle: f32, axis: f32) -> Option<f32> {
     (d.known == 1).then_some(d.value)
 }
 
-/// How many quads are kept, or the refusal's number and place.
-pub type Filtered = Result<usize, (u32, u32)>;
-
-/// Of the frame, the positions and three parameters are read.
-pub fn filter_quads(frame: &Frame, quads: &[u32], work: &mut [u32], kept: &mut [u32]) -> Filtered {
+/// How many quads are kept. Of the frame, the positions and three parameters are read.
+pub fn filter_quads(frame: &Frame, quads: &[u32], work: &mut [u32], kept: &mut [u32]) -> Result<usize, Refusal> {
     let (x, y, params) = (&frame.x, &frame.y, &frame.params);
-    let told = unsafe {
+    let count = unsafe {
         ngeunsadok_filter_quads(
             x.as_ptr(),
             x.len(),
@@ -120,18 +118,17 @@ pub fn filter_quads(frame: &Frame, quads: &[u32], work: &mut [u32], kept: &mut [
             kept.len(),
         )
     };
-    if told.refused == 0 {
-        Ok(told.count as usize)
-    } else {
-        Err((told.refused, told.place))
-    }
+    told(count.refused, count.place, count.count as usize)
 }
 
-/// How many components and entries there are, or the refusal's number and place.
-pub type Labelled = Result<[usize; 2], (u32, u32)>;
-
-pub fn label_components(given: &Given, work: &mut [u32], components: &mut [u32], entries: &mut [u32]) -> Labelled {
-    let told = unsafe {
+/// How many components and entries there are.
+pub fn label_components(
+    given: &Given,
+    work: &mut [u32],
+    components: &mut [u32],
+    entries: &mut [u32],
+) -> Result<[usize; 2], Refusal> {
+    let counts = unsafe {
         ngeunsadok_label_components(
             given.quads.as_ptr(),
             given.quads.len(),
@@ -146,9 +143,5 @@ pub fn label_components(given: &Given, work: &mut [u32], components: &mut [u32],
             entries.len(),
         )
     };
-    if told.refused == 0 {
-        Ok([told.components as usize, told.entries as usize])
-    } else {
-        Err((told.refused, told.place))
-    }
+    told(counts.refused, counts.place, [counts.components, counts.entries].map(|count| count as usize))
 }

@@ -1,42 +1,19 @@
 // Long comparisons of the archive's numbers: every root, and many angles and distances, bit for bit.
 
 use crate::archive;
+use crate::tally::Tally;
 use oracle::gap;
+use oracle::judge::Refusal;
 use oracle::random::Random;
-
-/// Counts what differs and keeps the first.
-#[derive(Default)]
-pub struct Tally {
-    compared: u64,
-    different: u64,
-    first: Option<String>,
-}
-
-impl Tally {
-    pub fn add(&mut self, same: bool, what: impl FnOnce() -> String) {
-        self.compared += 1;
-        if !same {
-            self.different += 1;
-            self.first.get_or_insert_with(what);
-        }
-    }
-
-    pub fn print(&self, name: &str) {
-        println!("{name}: {} compared, {} different", self.compared, self.different);
-        if let Some(first) = &self.first {
-            println!("  first: {first}");
-        }
-    }
-}
 
 fn same(ours: Option<f32>, theirs: Option<f32>) -> bool {
     ours.map(f32::to_bits) == theirs.map(f32::to_bits)
 }
 
 /// The refusals of a single float have row 4 and place 0.
-fn known(answer: archive::Measured) -> Option<f32> {
+fn known(answer: Result<f32, Refusal>) -> Option<f32> {
     if let Err(refusal) = answer {
-        assert_eq!(refusal, (4, 0));
+        assert_eq!(refusal, Refusal { row: 4, place: 0 });
     }
     answer.ok()
 }

@@ -1,14 +1,11 @@
-// A long comparison of the archive's labelling: drawn lists beside the Rust's own walk, the answer and every word of the three lists
-// after it.
+// The labelling of the archive beside the Rust's own walk on drawn lists, every word of the workspace, the components and the entries.
 
 use crate::archive;
-use crate::check::Tally;
+use crate::drawn::Call;
 use oracle::random::Random;
-use oracle::vectors::labels::{answer, any_case, damage, grid, Case};
-
-/// One in so many lists is a large one, and one in so many is damaged.
-const LARGE: usize = 500;
-const DAMAGED: usize = 10;
+use oracle::told::Told;
+use oracle::vectors::labels::{any_case, damage, grid, Case};
+use oracle::vectors::OverQuads;
 
 /// A large grid of which some quads are left out, begun elsewhere or run the other way.
 fn large(random: &mut Random) -> Case {
@@ -26,37 +23,9 @@ fn large(random: &mut Random) -> Case {
     Case::of(&records)
 }
 
-fn drawn(random: &mut Random) -> Case {
-    let mut case = if random.one_in(LARGE) { large(random) } else { any_case(random) };
-    if random.one_in(DAMAGED) {
-        damage(&mut case, random);
-    }
-    case
+fn ours(case: &Case) -> Told<2, 3> {
+    Told::by(case.lent(), |[work, components, entries]| archive::label_components(&case.given(), work, components, entries))
 }
 
-/// Our answer, and whether it and the three lists are the Rust's.
-fn compared(case: &Case) -> (archive::Labelled, bool) {
-    let (mut work, mut components, mut entries) = (case.work.clone(), case.components.clone(), case.entries.clone());
-    let ours = archive::label_components(&case.given(), &mut work, &mut components, &mut entries);
-    let theirs = answer(case);
-    let told = theirs.result.map_err(|refusal| (refusal.row, refusal.place));
-    let same = work == theirs.work && components == theirs.components && entries == theirs.entries;
-    (ours, ours == told && same)
-}
-
-pub fn run(count: u64, seed: u64) {
-    let mut tally = Tally::default();
-    let (mut quads, mut components, mut entries, mut refused) = (0, 0, 0, [0u64; 11]);
-    for i in 0..count {
-        let case = drawn(&mut Random::part(seed, i));
-        let (answer, same) = compared(&case);
-        tally.add(same, || format!("list {i}: {case:?}"));
-        match answer {
-            Ok([k, l]) => (quads, components, entries) = (quads + case.quads.len() / 4, components + k, entries + l),
-            Err((row, _)) => refused[row as usize] += 1,
-        }
-    }
-    tally.print("labels");
-    println!("  {quads} quads of accepted lists, {components} components, {entries} entries");
-    println!("  lists refused by rows 1 to 10: {:?}", &refused[1..]);
-}
+pub const LABELS: Call<Case, 2, 3> =
+    Call { name: "labels", counts: ["components", "entries"], any: any_case, large, damage, ours };

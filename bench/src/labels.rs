@@ -3,24 +3,17 @@
 // are as the call before left them: the workspace all zero by that call, the answer at the front of the others.
 
 use crate::archive;
-use crate::filters::{best, ROUNDS};
-use oracle::random::Random;
+use crate::timing;
 use oracle::vectors::labels::{grid, Case};
+use oracle::vectors::OverQuads;
 use plain::Labelling;
 
 fn row(name: &str, case: &Case) {
     let given = case.given();
     let prepared = Labelling::of(&case.records(), case.least_quads, case.least_corners);
-    let (mut work, mut components, mut entries) = (case.work.clone(), case.components.clone(), case.entries.clone());
-    let mut call =
-        || archive::label_components(&given, &mut work, &mut components, &mut entries).expect("a sound list");
-    let counts = call();
-    assert_eq!(counts, prepared.run());
-    let ours = best(|| (), |()| call());
-    let theirs = best(|| (), |()| prepared.run());
-    let [components, entries] = counts;
-    let quads = given.quads.len() / 4;
-    println!("| {name} | {quads} | {components} | {entries} | {ours:.1} | {theirs:.1} | {:.2} |", ours / theirs);
+    let [mut work, mut components, mut entries] = case.lent();
+    let ours = || archive::label_components(&given, &mut work, &mut components, &mut entries).expect("a sound list");
+    timing::row_of_calls(name, given.quads.len() / 4, ours, || (), |()| prepared.run());
 }
 
 /// Quads on the side from corner 0 to corner 1, every other one running it the other way if so said. Each has two more corners, the
@@ -38,26 +31,16 @@ fn apart() -> Case {
     Case::of(&(0..1_024).map(quad).collect::<Vec<_>>())
 }
 
-/// The same cells in another order.
-fn shuffled(case: Case) -> Case {
-    case.with(|case| {
-        let mut records = case.records();
-        Random::new(5).shuffle(&mut records);
-        case.quads = records.concat();
-    })
-}
-
 pub fn run() {
-    println!("| best of {ROUNDS}, µs | quads | components | entries | this | the Rust | ratio |");
-    println!("|---|---|---|---|---|---|---|");
+    timing::head_of_calls(&["quads", "components", "entries"]);
     row("grid of 64 by 64 corners", &grid(63, 63));
-    row("the same, shuffled", &shuffled(grid(63, 63)));
+    row("the same, shuffled", &grid(63, 63).shuffled(5));
     row("all on one side, alike", &one_side(4_093, 1, false));
     row("all on one side, both ways, clashing", &one_side(4_093, 1, true));
     row("all on one side, both ways", &one_side(2_047, 2, true));
     row("snake", &grid(2_047, 1));
-    row("snake, shuffled", &shuffled(grid(2_047, 1)));
+    row("snake, shuffled", &grid(2_047, 1).shuffled(5));
     row("all apart", &apart());
     row("grid of 16 by 16 corners", &grid(15, 15));
-    println!("The lent lists are not cleared before a call: they are as the call before left them, its workspace all zero.");
+    timing::say_what_is_lent();
 }

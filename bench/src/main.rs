@@ -4,9 +4,12 @@ mod archive;
 mod check;
 mod check_filters;
 mod check_labels;
+mod drawn;
 mod filters;
 mod labels;
 mod numbers;
+mod tally;
+mod timing;
 
 const HELP: &str = "\
 bench numbers                 time per root, angle and distance beside the Rust's
@@ -25,14 +28,16 @@ fn number(word: Option<&String>, otherwise: u64) -> u64 {
 fn main() {
     let words: Vec<String> = std::env::args().skip(1).collect();
     let named: Vec<&str> = words.iter().map(String::as_str).collect();
+    let count = |otherwise: u64| number(words.get(2), otherwise);
+    let seed = number(words.get(3), 1);
     match named.as_slice() {
         ["numbers"] => numbers::run(),
         ["filters"] => filters::run(),
         ["labels"] => labels::run(),
         ["check", "roots"] => check::roots(),
-        ["check", "filters", ..] => check_filters::run(number(words.get(2), 100_000), number(words.get(3), 1)),
-        ["check", "labels", ..] => check_labels::run(number(words.get(2), 100_000), number(words.get(3), 1)),
-        ["check", "pairs", ..] => check::pairs(number(words.get(2), 100_000_000), number(words.get(3), 1)),
+        ["check", "filters", ..] => check_filters::FILTERS.check(count(100_000), seed),
+        ["check", "labels", ..] => check_labels::LABELS.check(count(100_000), seed),
+        ["check", "pairs", ..] => check::pairs(count(100_000_000), seed),
         _ => println!("{HELP}"),
     }
 }

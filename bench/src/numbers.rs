@@ -1,12 +1,11 @@
 // Time per call, each side behind one call that is not inlined, over the same inputs in the same run; the best of several rounds.
 
 use crate::archive;
+use crate::timing;
 use oracle::random::Random;
 use std::hint::black_box;
-use std::time::Instant;
 
 const INPUTS: usize = 16_384;
-const ROUNDS: usize = 200;
 
 #[inline(never)]
 fn rust_root(x: f32) -> f32 {
@@ -25,20 +24,16 @@ fn rust_distance(angle: f32, axis: f32) -> f32 {
 
 /// Nanoseconds per call in the best round.
 fn best(pairs: &[(f32, f32)], call: impl Fn(f32, f32) -> f32) -> f64 {
-    let mut least = f64::INFINITY;
-    for _ in 0..ROUNDS {
-        let start = Instant::now();
+    let round = || {
         for &(a, b) in black_box(pairs) {
             black_box(call(a, b));
         }
-        least = least.min(start.elapsed().as_nanos() as f64 / pairs.len() as f64);
-    }
-    least
+    };
+    1_000.0 * timing::best(|| (), |()| round()) / pairs.len() as f64
 }
 
 fn row(name: &str, pairs: &[(f32, f32)], ours: impl Fn(f32, f32) -> f32, theirs: impl Fn(f32, f32) -> f32) {
-    let (a, b) = (best(pairs, ours), best(pairs, theirs));
-    println!("| {name} | {a:.1} | {b:.1} | {:.2} |", a / b);
+    timing::row(name, &[], best(pairs, ours), best(pairs, theirs));
 }
 
 fn inputs(make: impl Fn(&mut Random) -> (f32, f32)) -> Vec<(f32, f32)> {
@@ -51,8 +46,7 @@ pub fn run() {
     let steps = inputs(|r| (r.within(-40.0, 40.0) as f32, r.within(-40.0, 40.0) as f32));
     let near = inputs(|r| (r.within(-3.1, 3.1) as f32, r.within(0.0, 3.1) as f32));
     let far = inputs(|r| (r.within(-3.1, 3.1) as f32, r.within(-100.0, 100.0) as f32));
-    println!("| per call, ns | this | the Rust | ratio |");
-    println!("|---|---|---|---|");
+    timing::head("per call, ns", &[]);
     row("root, beside f32::sqrt", &squares, |x, _| archive::root(x).unwrap_or(0.0), |x, _| rust_root(x));
     row("angle, beside atan2", &steps, |x, y| archive::angle(x, y).unwrap_or(0.0), rust_angle);
     row("distance, axis within a half turn", &near, |a, b| archive::distance(a, b).unwrap_or(0.0), rust_distance);

@@ -4,13 +4,42 @@
 mod filters;
 mod labels;
 
-pub use filters::{filters, words_wanted};
+pub use filters::filters;
 pub use labels::{labels, Given};
 
 use crate::judge::{counts, first_of, missing_corner, positions, repeated_corner, twins, Refusal};
 use frame::{AxisPair, Frame};
 
 const GREATEST_CLASS: u32 = 2;
+
+/// Words of workspace wanted for each quad and for each corner.
+const WORDS: [usize; 2] = [32, 16];
+
+/// The words of workspace that row 8 wants of the calls over a quad list.
+pub fn words_wanted(quads: usize, corners: usize) -> usize {
+    WORDS[0] * quads + WORDS[1] * corners
+}
+
+/// Row 8 of those calls.
+fn short(quads: &[u32], corners: usize, work: &[u32]) -> Option<usize> {
+    let wanted = words_wanted(quads.len() / 4, corners);
+    (work.len() < wanted).then_some(wanted)
+}
+
+/// Row 9 or 10: refuses where a list has less room than these words, by whole records of a size.
+/// Gives the number of records.
+fn room(list: &[u32], words: &[u32], size: usize, row: u32) -> Result<usize, Refusal> {
+    let wanted = words.len() / size;
+    if list.len() / size < wanted {
+        return Err(Refusal { row, place: wanted as u32 });
+    }
+    Ok(wanted)
+}
+
+/// The whole records of a quad list.
+pub fn records(words: &[u32]) -> Vec<[u32; 4]> {
+    words.as_chunks().0.to_vec()
+}
 
 /// The axis cache of a frame's only corner.
 pub fn axis_cache(frame: &Frame) -> Result<AxisPair, Refusal> {
@@ -86,10 +115,8 @@ pub fn quads(frame: &Frame, classes: &[u32], list: &mut [u32]) -> Result<usize, 
     if let Some(refusal) = first_of(&rows) {
         return Err(refusal);
     }
-    let quads = ruled::quads(frame, classes);
-    if list.len() / 4 < quads.len() {
-        return Err(Refusal { row: 9, place: quads.len() as u32 });
-    }
-    list[..4 * quads.len()].copy_from_slice(&quads.concat());
-    Ok(quads.len())
+    let quads = ruled::quads(frame, classes).concat();
+    let count = room(list, &quads, 4, 9)?;
+    list[..quads.len()].copy_from_slice(&quads);
+    Ok(count)
 }

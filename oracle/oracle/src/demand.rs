@@ -39,7 +39,7 @@ fn reaches(p: &Quad, q: &Quad) -> bool {
 }
 
 /// Neighbours have a side in common, whichever way each runs it.
-fn neighbours(p: &Quad, q: &Quad) -> bool {
+pub fn neighbours(p: &Quad, q: &Quad) -> bool {
     reaches(p, q) || sides(p).iter().any(|side| sides(q).contains(side))
 }
 

@@ -84,12 +84,21 @@ pub fn judge(frame: &Frame) -> Option<Refusal> {
     first_of(&rows)
 }
 
+/// Row 1 of a quad list.
+pub(crate) fn whole_quads(quads: &[u32]) -> Option<usize> {
+    (!quads.len().is_multiple_of(4)).then_some(0)
+}
+
+/// Row 2 of a whole quad list and a number of corners.
+pub(crate) fn quad_counts(quads: &[u32], corners: usize) -> Option<usize> {
+    (corners > MOST_CORNERS || quads.len() / 4 > MOST_QUADS).then_some(0)
+}
+
 /// The refusals of labelling alone that a quad list and a number of corners can have.
 pub fn judge_quads(quads: &[u32], corners: usize) -> Option<Refusal> {
-    let over = corners > MOST_CORNERS || quads.len() > 4 * MOST_QUADS;
     let rows: [&dyn Fn() -> Option<usize>; 6] = [
-        &|| (!quads.len().is_multiple_of(4)).then_some(0),
-        &|| over.then_some(0),
+        &|| whole_quads(quads),
+        &|| quad_counts(quads, corners),
         &|| None,
         &|| None,
         &|| missing_corner(quads, corners),

@@ -11,5 +11,6 @@ pub mod quads_text;
 pub mod random;
 pub mod stages;
 pub mod text;
+pub mod told;
 pub mod vectors;
 pub mod words;

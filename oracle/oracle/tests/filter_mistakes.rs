@@ -1,6 +1,12 @@
 // Mistakes in the filters: each gives another answer to some of the filter vectors.
 
-use oracle::vectors::filters::{answer, filter_cases, Case};
+mod common {
+    pub mod mistakes;
+}
+
+use common::mistakes::{each_is_told, Mistake};
+use oracle::vectors::filters::{filter_cases, Case};
+use oracle::vectors::{OverQuads, Vector};
 
 type Quad = [u32; 4];
 type Sides = [f32; 4];
@@ -121,17 +127,15 @@ impl Rules {
 fn accepted() -> Vec<(Case, Vec<u32>)> {
     let mut found = Vec::new();
     for case in filter_cases().into_iter().filter(|case| case.quads.len() < 4_000) {
-        let answer = answer(&case);
-        if let Ok(count) = answer.result {
-            found.push((case, answer.kept[..4 * count].to_vec()));
+        let told = case.answer();
+        if let Ok([count]) = told.result {
+            found.push((case, told.lists[1][..4 * count].to_vec()));
         }
     }
     found
 }
 
-type Mistake = (&'static str, fn(&mut Rules));
-
-const CROWDS_AND_RATIOS: [Mistake; 15] = [
+const CROWDS_AND_RATIOS: [Mistake<Rules>; 15] = [
     ("four quads are illegal", |r| r.most_incidence = 7),
     ("five quads are legal", |r| r.most_incidence = 10),
     ("one illegal corner drops", |r| r.illegal_corners = 1),
@@ -177,7 +181,7 @@ const CROWDS_AND_RATIOS: [Mistake; 15] = [
     }),
 ];
 
-const LENGTHS_AND_GROUPS: [Mistake; 11] = [
+const LENGTHS_AND_GROUPS: [Mistake<Rules>; 11] = [
     ("a root of the exact sum", |r| r.length = |dx, dy| f64::from(dx).hypot(f64::from(dy)) as f32),
     ("a fused sum", |r| r.length = |dx, dy| dx.mul_add(dx, dy * dy).sqrt()),
     ("the squared length", |r| r.length = |dx, dy| dx * dx + dy * dy),
@@ -202,7 +206,7 @@ const LENGTHS_AND_GROUPS: [Mistake; 11] = [
     ("one group", |r| r.joined = |_, _| true),
 ];
 
-const SIZES: [Mistake; 17] = [
+const SIZES: [Mistake<Rules>; 17] = [
     ("each quad a group", |r| r.joined = |_, _| false),
     ("shared sides once", |r| {
         r.sides = |group| {
@@ -262,12 +266,6 @@ fn the_rules_are_right() {
 
 #[test]
 fn every_mistake_is_told() {
-    let cases = accepted();
-    for (name, make) in CROWDS_AND_RATIOS.iter().chain(&LENGTHS_AND_GROUPS).chain(&SIZES) {
-        let mut rules = RIGHT;
-        make(&mut rules);
-        let told = cases.iter().filter(|(case, kept)| rules.kept(case).concat() != *kept).count();
-        println!("{name}: {told} of {}", cases.len());
-        assert!(told > 0, "{name} passes for right");
-    }
+    let mistakes = [&CROWDS_AND_RATIOS[..], &LENGTHS_AND_GROUPS, &SIZES].concat();
+    each_is_told(|| RIGHT, &mistakes, &accepted(), |rules, case| rules.kept(case).concat());
 }

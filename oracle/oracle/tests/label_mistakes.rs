@@ -1,6 +1,12 @@
 // Mistakes in the labelling: each gives another answer to some of the label vectors.
 
-use oracle::vectors::labels::{answer, label_cases, Case};
+mod common {
+    pub mod mistakes;
+}
+
+use common::mistakes::{each_is_told, Mistake};
+use oracle::vectors::labels::{label_cases, Case};
+use oracle::vectors::{OverQuads, Vector};
 use std::collections::{BTreeMap, HashMap};
 
 type Quad = [u32; 4];
@@ -182,16 +188,16 @@ impl Rules {
 fn accepted() -> Vec<(Case, [Vec<u32>; 2])> {
     let mut found = Vec::new();
     for case in label_cases().into_iter().filter(|case| case.quads.len() < 4_000) {
-        let answer = answer(&case);
-        if let Ok([k, l]) = answer.result {
-            let lists = [answer.components[..3 * k].to_vec(), answer.entries[..3 * l].to_vec()];
-            found.push((case, lists));
+        let told = case.answer();
+        if let Ok([k, l]) = told.result {
+            let [_, components, entries] = told.lists;
+            found.push((case, [components[..3 * k].to_vec(), entries[..3 * l].to_vec()]));
         }
     }
     found
 }
 
-const MISTAKES: [(&str, fn(&mut Rules)); 22] = [
+const MISTAKES: [Mistake<Rules>; 22] = [
     ("groups across sides run alike only", |r| r.joined = alike),
     ("groups across sides run in opposite senses only", |r| r.joined = opposite),
     ("all quads one group", |r| r.joined = |_, _| true),
@@ -229,12 +235,5 @@ fn the_rules_are_right() {
 
 #[test]
 fn every_mistake_is_told() {
-    let cases = accepted();
-    for (name, make) in MISTAKES {
-        let mut rules = RIGHT;
-        make(&mut rules);
-        let told = cases.iter().filter(|(case, lists)| rules.answer(case) != *lists).count();
-        println!("{name}: {told} of {}", cases.len());
-        assert!(told > 0, "{name} passes for right");
-    }
+    each_is_told(|| RIGHT, &MISTAKES, &accepted(), Rules::answer);
 }

@@ -1,22 +1,27 @@
 // The label vectors: what they must contain, document 01's third demand on every case, and the
 // files.
 
-mod common;
+mod common {
+    pub mod cases;
+    pub mod files;
+}
 
-use common::check_data;
+use common::cases::{either_side, over, parts, sound};
+use common::files::read_back;
 use oracle::demand::{components, fates};
 use oracle::judge::Refusal;
-use oracle::vectors::labels::{answer, label_cases, write_labels, Case, Summary};
+use oracle::vectors::labels::{label_cases, write_labels, Case, Summary};
+use oracle::vectors::{OverQuads, Summed, Vector};
 
 #[test]
 fn every_row() {
     let summary = Summary::of(&label_cases());
-    let rows: Vec<u32> = summary.refused.keys().copied().collect();
-    assert_eq!(rows, [1, 2, 5, 6, 8, 9, 10]);
-    assert!(summary.cases >= 2_000 && summary.refused.values().all(|&count| count >= 10));
+    let counts = summary.counts;
+    assert_eq!(counts.rows(), [1, 2, 5, 6, 8, 9, 10]);
+    assert!(counts.cases >= 2_000 && counts.refused.values().all(|&count| count >= 10));
     assert!(summary.fates.iter().all(|&count| count >= 50));
     assert!(summary.components[..2].iter().all(|&count| count >= 20));
-    assert_eq!(summary.most[1..], [4_096, 4_096, 48 * 4_096]);
+    assert_eq!(summary.most.0, [4_096, 4_096, 48 * 4_096]);
 }
 
 /// What the arrays of the program that replays the cases must hold.
@@ -48,10 +53,10 @@ fn fronted(front: &[u32], before: &[u32]) -> Vec<u32> {
 
 /// What each refusal leaves, and success: the workspace, then the two lists.
 fn as_the_demand_says(case: &Case) {
-    let found = answer(case);
+    let found = case.answer();
     let zero = vec![0; case.work.len()];
     let kept = |work: &[u32]| [work.to_vec(), case.components.clone(), case.entries.clone()];
-    let left = [found.work, found.components, found.entries];
+    let left = found.lists;
     match found.result {
         Ok(counts) => {
             let [records, listed] = demanded(case);
@@ -75,77 +80,39 @@ fn demand_beside_the_walk() {
     label_cases().iter().for_each(as_the_demand_says);
 }
 
-/// How many cases are accepted, and how many meet the refusal, of those that a test picks.
-fn either_side(row: u32, picks: impl Fn(&Case) -> bool) -> (usize, usize) {
-    let (mut accepted, mut refused) = (0, 0);
-    for case in label_cases().iter().filter(|case| picks(case)) {
-        match answer(case).result {
-            Ok(_) => accepted += 1,
-            Err(refusal) => refused += (refusal.row == row) as usize,
-        }
-    }
-    (accepted, refused)
-}
-
-/// Whether the rows before 9 let a case pass.
-fn sound(case: &Case) -> bool {
-    !matches!(answer(case).result, Err(r) if r.row < 9)
-}
-
 #[test]
 fn just_accepted_and_just_refused() {
-    assert!(either_side(8, |case| case.work.len() == case.wanted()).0 > 100);
-    assert!(either_side(8, |case| case.work.len() + 1 == case.wanted()).1 > 5);
+    let cases = label_cases();
+    assert!(either_side(&cases, 8, |case| case.work.len() == case.wanted()).0 > 100);
+    assert!(either_side(&cases, 8, |case| case.work.len() + 1 == case.wanted()).1 > 5);
     for (row, list) in [(9, 0), (10, 1)] {
         let room = |case: &Case| [case.components.len() / 3, case.entries.len() / 3][list];
         let wanted = |case: &Case| demanded(case)[list].len() / 3;
-        assert!(either_side(row, |case| sound(case) && room(case) == wanted(case)).0 > 20);
-        assert!(either_side(row, |case| sound(case) && room(case) + 1 == wanted(case)).1 > 10);
+        assert!(either_side(&cases, row, |case| sound(case) && room(case) == wanted(case)).0 > 20);
+        assert!(
+            either_side(&cases, row, |case| sound(case) && room(case) + 1 == wanted(case)).1 > 10
+        );
     }
-    assert!(either_side(2, |case| case.corners == 4_096).0 > 0);
-    assert!(either_side(2, |case| case.corners == 4_097).1 > 0);
-    assert!(either_side(2, |case| case.quads.len() == 4 * 4_096).0 > 0);
-    assert!(either_side(2, |case| case.quads.len() == 4 * 4_097).1 > 0);
-    assert!((1..4).all(|over| either_side(1, |case| case.quads.len() % 4 == over).1 > 0));
-}
-
-/// One list of a case's words: length, given, fill, words.
-fn take_list(words: &mut &[u32]) -> Vec<u32> {
-    let (length, given, fill) = (words[0] as usize, words[1] as usize, words[2]);
-    let mut list = words[3..3 + given].to_vec();
-    list.resize(length, fill);
-    *words = &words[3 + given..];
-    list
+    assert!(either_side(&cases, 2, |case| case.corners == 4_096).0 > 0);
+    assert!(either_side(&cases, 2, |case| case.corners == 4_097).1 > 0);
+    assert!(either_side(&cases, 2, |case| case.quads.len() == 4 * 4_096).0 > 0);
+    assert!(either_side(&cases, 2, |case| case.quads.len() == 4 * 4_097).1 > 0);
+    assert!((1..4).all(|over| either_side(&cases, 1, |case| case.quads.len() % 4 == over).1 > 0));
 }
 
 /// A line of a data file says its case again.
 fn check_line(line: &str, case: &Case) {
-    let words: Vec<u32> = line.split(' ').map(|w| u32::from_str_radix(w, 16).unwrap()).collect();
-    assert_eq!(words[..4], [5, case.least_quads, case.least_corners, case.corners]);
-    let mut rest = &words[5..];
-    let [quads, work, components, entries] = std::array::from_fn(|_| take_list(&mut rest));
-    assert!(rest.is_empty());
-    let over: Vec<u32> = quads.iter().cycle().take(words[4] as usize).copied().collect();
-    assert_eq!(over, case.quads);
-    assert_eq!([&work, &components, &entries], [&case.work, &case.components, &case.entries]);
+    let (numbers, [quads, work, components, entries]) = parts(line);
+    let length = case.quads.len() as u32;
+    assert_eq!(numbers, [5, case.least_quads, case.least_corners, case.corners, length]);
+    assert_eq!(over(&quads, length), case.quads);
+    assert_eq!([work, components, entries], case.lent());
 }
 
 #[test]
 fn files() {
-    let folder = std::env::temp_dir().join(format!("label-vectors-{}", std::process::id()));
-    write_labels(&folder).unwrap();
-    let names = std::fs::read_to_string(folder.join("args")).unwrap();
-    let answers = std::fs::read_to_string(folder.join("stdout")).unwrap();
     let cases = label_cases();
-    let mut next = cases.iter();
-    for name in names.lines() {
-        let text = std::fs::read_to_string(folder.join("data").join(name)).unwrap();
-        check_data(&text);
-        text.lines().for_each(|line| check_line(line, next.next().unwrap()));
-    }
-    assert!(next.next().is_none());
-    let headings: Vec<&str> = answers.lines().filter_map(|l| l.strip_prefix("# ")).collect();
-    assert_eq!(headings, names.lines().collect::<Vec<_>>());
-    assert_eq!(answers.lines().count(), headings.len() + 4 * cases.len());
-    std::fs::remove_dir_all(folder).unwrap();
+    let (lines, answer_lines) = read_back("label", write_labels);
+    assert_eq!((lines.len(), answer_lines), (cases.len(), 4 * cases.len()));
+    lines.iter().zip(&cases).for_each(|(line, case)| check_line(line, case));
 }

@@ -1,7 +1,7 @@
 // The labelling's call, whole: its rows, the unchanged walk's answer, and what it leaves in the
 // workspace and in the lists of components and entries.
 
-use super::words_wanted;
+use super::{records, room, short};
 use crate::judge::{judge_quads, Refusal};
 use frame::{Component, Entry};
 
@@ -29,25 +29,11 @@ fn entry_words(entry: &Entry) -> [u32; 3] {
     [entry.u as u32, entry.v as u32, entry.corner]
 }
 
-/// Refuses where a list has less room than these words, by whole records of three.
-fn room(list: &[u32], words: &[u32], row: u32) -> Result<(), Refusal> {
-    let wanted = words.len() / 3;
-    if list.len() / 3 < wanted {
-        return Err(Refusal { row, place: wanted as u32 });
-    }
-    Ok(())
-}
-
 /// Rows 1 to 8.
-fn judge(given: &Given, work: &[u32]) -> Result<(), Refusal> {
-    if let Some(refusal) = judge_quads(given.quads, given.corners as usize) {
-        return Err(refusal);
-    }
-    let wanted = words_wanted(given.quads.len() / 4, given.corners as usize);
-    if work.len() < wanted {
-        return Err(Refusal { row: 8, place: wanted as u32 });
-    }
-    Ok(())
+fn judge(given: &Given, work: &[u32]) -> Option<Refusal> {
+    let corners = given.corners as usize;
+    let row_8 = |wanted: usize| Refusal { row: 8, place: wanted as u32 };
+    judge_quads(given.quads, corners).or_else(|| short(given.quads, corners, work).map(row_8))
 }
 
 /// The labelling call: gives the numbers of components and of entries.
@@ -57,18 +43,18 @@ pub fn labels(
     components: &mut [u32],
     entries: &mut [u32],
 ) -> Result<[usize; 2], Refusal> {
-    judge(given, work)?;
+    if let Some(refusal) = judge(given, work) {
+        return Err(refusal);
+    }
     work.fill(0);
-    let quads: Vec<[u32; 4]> = given.quads.chunks(4).map(|q| [q[0], q[1], q[2], q[3]]).collect();
-    let answer = plain::label(&quads, given.least_quads, given.least_corners);
-    let records = component_words(&answer);
+    let answer = plain::label(&records(given.quads), given.least_quads, given.least_corners);
+    let heads = component_words(&answer);
     let listed: Vec<u32> = answer
         .iter()
         .flat_map(|component| component.entries.iter().flat_map(entry_words))
         .collect();
-    room(components, &records, 9)?;
-    room(entries, &listed, 10)?;
-    components[..records.len()].copy_from_slice(&records);
+    let counts = [room(components, &heads, 3, 9)?, room(entries, &listed, 3, 10)?];
+    components[..heads.len()].copy_from_slice(&heads);
     entries[..listed.len()].copy_from_slice(&listed);
-    Ok([answer.len(), listed.len() / 3])
+    Ok(counts)
 }

@@ -1,10 +1,11 @@
-// oracle vectors numbers DIR, and the same for stages, filters and labels: the vectors of the calls.
+// oracle vectors numbers DIR, and the same for stages, filters, labels: the vectors of the calls.
 
 use super::Outcome;
 use oracle::vectors::filters::write_filters;
 use oracle::vectors::labels::write_labels;
 use oracle::vectors::stages::write_stages;
-use oracle::vectors::write_numbers;
+use oracle::vectors::{write_numbers, Written};
+use std::fmt::Display;
 use std::io;
 use std::path::Path;
 
@@ -15,19 +16,8 @@ fn numbers(folder: &Path) -> io::Result<()> {
     Ok(())
 }
 
-fn stages(folder: &Path) -> io::Result<()> {
-    print!("{}", write_stages(folder)?);
-    Ok(())
-}
-
-fn filters(folder: &Path) -> io::Result<()> {
-    print!("{}", write_filters(folder)?);
-    Ok(())
-}
-
-fn labels(folder: &Path) -> io::Result<()> {
-    print!("{}", write_labels(folder)?);
-    Ok(())
+fn shown<S: Display>(written: io::Result<Written<S>>) -> io::Result<()> {
+    written.map(|written| print!("{written}"))
 }
 
 pub fn run(args: &[String]) -> Outcome {
@@ -36,9 +26,9 @@ pub fn run(args: &[String]) -> Outcome {
     };
     let written = match which.as_str() {
         "numbers" => numbers(folder.as_ref()),
-        "stages" => stages(folder.as_ref()),
-        "filters" => filters(folder.as_ref()),
-        "labels" => labels(folder.as_ref()),
+        "stages" => shown(write_stages(folder.as_ref())),
+        "filters" => shown(write_filters(folder.as_ref())),
+        "labels" => shown(write_labels(folder.as_ref())),
         _ => return Err(format!("no vectors {which}; there are numbers, stages, filters, labels")),
     };
     written.map_err(|e| format!("{folder}: {e}"))

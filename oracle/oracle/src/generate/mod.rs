@@ -9,6 +9,7 @@ mod folds;
 mod grids;
 mod hubs;
 pub mod link;
+pub mod patterns;
 pub mod quad_lists;
 mod rosettes;
 mod scatter;

@@ -2,6 +2,7 @@
 
 use std::collections::HashMap;
 
+use super::patterns::{self, corners, distinct};
 use crate::random::Random;
 
 /// A quad list with the number of corners and the two least numbers.
@@ -64,10 +65,9 @@ fn sheet(random: &mut Random) -> Vec<[u32; 4]> {
 /// A sheet in which some corners are taken for one another.
 fn pinched(random: &mut Random) -> Vec<[u32; 4]> {
     let mut quads = sheet(random);
-    let corners = quads.iter().flatten().max().map_or(1, |&c| c + 1);
+    let corners = corners(&quads).max(1) as usize;
     for _ in 0..random.between(1, 3) {
-        let (from, to) =
-            (random.below(corners as usize) as u32, random.below(corners as usize) as u32);
+        let (from, to) = (random.below(corners) as u32, random.below(corners) as u32);
         for corner in quads.iter_mut().flatten().filter(|c| **c == from) {
             *corner = to;
         }
@@ -92,31 +92,16 @@ fn snake(random: &mut Random) -> Vec<[u32; 4]> {
     quads
 }
 
-/// Quads round corner 0, each sharing a side with the next; the last may meet the first.
+/// Quads round corner 0; the last may meet the first.
 fn fan(random: &mut Random) -> Vec<[u32; 4]> {
     let count = random.between(2, 9) as u32;
-    let closed = random.coin() && count > 2;
-    (0..count)
-        .map(|q| {
-            let last = if closed && q + 1 == count { 1 } else { 2 * q + 3 };
-            [0, 2 * q + 1, 2 * q + 2, last]
-        })
-        .collect()
+    patterns::fan(count, random.coin() && count > 2)
 }
 
-/// A row of cells whose end is its start again, possibly with a twist.
+/// A row of cells whose end is its start again.
 fn band(random: &mut Random) -> Vec<[u32; 4]> {
     let count = random.between(2, 9) as u32;
-    let twist = random.coin();
-    (0..count)
-        .map(|q| {
-            let mut next = [2 * q + 2, 2 * q + 3];
-            if q + 1 == count {
-                next = if twist { [1, 0] } else { [0, 1] };
-            }
-            [2 * q, next[0], next[1], 2 * q + 1]
-        })
-        .collect()
+    patterns::band(count, random.coin())
 }
 
 /// Many quads on one side, running it either way.
@@ -141,10 +126,6 @@ fn loose(random: &mut Random) -> Vec<[u32; 4]> {
     (0..random.between(1, 8)).map(|_| [0; 4].map(|_: u32| random.below(corners) as u32)).collect()
 }
 
-fn distinct(quad: &[u32; 4]) -> bool {
-    (0..4).all(|i| !quad[..i].contains(&quad[i]))
-}
-
 /// Turns quads to start elsewhere, runs a few the other way, and reorders the list.
 fn disguise(quads: &mut [[u32; 4]], random: &mut Random) {
     let reversed = random.pick(&[0, 0, 5, 30]);
@@ -164,7 +145,7 @@ pub fn quad_list(kind: usize, random: &mut Random) -> QuadList {
     let mut quads = QUAD_KINDS[kind].1(random);
     quads.retain(distinct);
     disguise(&mut quads, random);
-    let corners = quads.iter().flatten().max().map_or(0, |&c| c as usize + 1);
+    let corners = corners(&quads) as usize;
     let least_quads = random.pick(&[0, 1, 1, 1, 2, 4]);
     let least_corners = random.pick(&[0, 0, 1, 4, 4, 8]);
     QuadList { quads, corners, least_quads, least_corners }

@@ -1,5 +1,6 @@
 // Differences for the angle call, as pairs dx, dy.
 
+use super::form::moved;
 use super::{Rows, INFINITIES, NANS};
 use crate::gap::{difference, KINDS};
 use crate::random::Random;
@@ -35,8 +36,7 @@ fn axes_and_diagonals(rows: &mut Pairs) {
     for size in sizes {
         all_ways(rows, size, 0.0);
         all_ways(rows, size, size);
-        let next = f32::from_bits(size.to_bits() - 1);
-        all_ways(rows, size, next);
+        all_ways(rows, size, moved(size, -1));
         all_ways(rows, size, smallest);
     }
 }
@@ -48,7 +48,6 @@ fn bends(rows: &mut Pairs, random: &mut Random) {
         let lo = 53.0 * 2f32.powi(step - 12);
         all_ways(rows, hi, lo);
         for (p, q) in [(1, 0), (-1, 0), (0, 1), (0, -1)] {
-            let moved = |x: f32, by: i32| f32::from_bits((x.to_bits() as i32 + by) as u32);
             all_ways(rows, moved(hi, p), moved(lo, q));
         }
     }
@@ -61,8 +60,7 @@ fn bends(rows: &mut Pairs, random: &mut Random) {
 
 fn refused_and_least_refused(rows: &mut Pairs) {
     let top = 2_097_152.0_f32;
-    let above = f32::from_bits(top.to_bits() + 1);
-    let below = f32::from_bits(top.to_bits() - 1);
+    let (above, below) = (moved(top, 1), moved(top, -1));
     for other in [0.0, 1.0, top, below, above] {
         all_ways(rows, top, other);
         all_ways(rows, above, other);

@@ -1,5 +1,6 @@
 // Pairs of an angle and an axis angle for the distance call.
 
+use super::form::moved;
 use super::{Rows, INFINITIES, NANS};
 use crate::random::Random;
 use rules::{HALF_PI, PI, QUARTER_PI};
@@ -8,11 +9,6 @@ type Pairs = Rows<[u32; 2]>;
 
 fn add(rows: &mut Pairs, angle: f32, axis: f32) {
     rows.add([angle.to_bits(), axis.to_bits()]);
-}
-
-/// The float some steps further in the order of bits.
-fn moved(x: f32, steps: i32) -> f32 {
-    f32::from_bits(x.to_bits().wrapping_add(steps as u32))
 }
 
 fn zeros_and_equals(rows: &mut Pairs, random: &mut Random) {

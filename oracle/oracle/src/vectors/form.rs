@@ -13,6 +13,12 @@ pub fn untouched(length: usize) -> Vec<u32> {
     (0..length as u32).map(|i| 70_000 + i.min(4)).collect()
 }
 
+/// Makes a list longer or shorter, and never shorter than nothing.
+pub fn resize<T: Copy>(list: &mut Vec<T>, by: i32, with: T) {
+    let length = list.len() as i32 + by;
+    list.resize(length.max(0) as usize, with);
+}
+
 /// The float some steps further in the order of bits.
 pub fn moved(x: f32, steps: i32) -> f32 {
     f32::from_bits(x.to_bits().wrapping_add(steps as u32))
@@ -40,11 +46,7 @@ pub fn text(words: &[u32]) -> String {
     digits.join(" ") + "\n"
 }
 
-/// The line of a count or of a refusal.
-pub fn counted(result: &Result<usize, Refusal>) -> String {
-    result.as_ref().map_or_else(refused, |count| format!("done {count}"))
-}
-
+/// The line of a refusal.
 pub fn refused(refusal: &Refusal) -> String {
     format!("refused {:08X} {:08X}", refusal.row, refusal.place)
 }

@@ -2,18 +2,27 @@
 // answers that document 01 gives.
 
 mod angles;
+mod counts;
 mod distances;
+mod faults;
 pub mod filters;
 mod form;
 pub mod labels;
+mod over_quads;
 mod pack;
 mod roots;
 pub mod stages;
+mod vector;
+mod work;
 mod write;
 
 pub use angles::angles;
+pub use counts::Summed;
 pub use distances::distances;
+pub use over_quads::OverQuads;
+pub use pack::Written;
 pub use roots::roots;
+pub use vector::{Answer, Vector};
 pub use write::write_numbers;
 
 /// Hands out single numbers or pairs by their bits, each once, in the order given.
@@ -57,3 +66,10 @@ pub const NANS: [u32; 8] = [
 
 /// The two infinities.
 pub const INFINITIES: [u32; 2] = [0x7F80_0000, 0xFF80_0000];
+
+/// The greatest positions of row 4, of either sign.
+const GREATEST_POSITIONS: [u32; 2] = [0x4980_0000, 0xC980_0000];
+
+/// Positions that row 4 refuses: the next ones, the greatest float, and those that are no number.
+const REFUSED_POSITIONS: [u32; 7] =
+    [0x4980_0001, 0xC980_0001, 0x7F7F_FFFF, 0x7F80_0000, 0xFF80_0000, 0x7FC0_0000, 0xFF80_0001];

@@ -1,33 +1,47 @@
 // Vectors as files: cases in data/, the files' names in args, answers in stdout.
 
 use std::path::Path;
-use std::{fs, io};
+use std::{fmt, fs, io};
+
+use super::form::text;
+use super::{Answer, Summed, Vector};
 
 /// No data file may be longer: a program reads 64 KiB at most.
 const LONGEST: usize = 65_000;
 
 #[derive(Default)]
 pub struct File {
-    name: String,
-    cases: String,
-    answers: String,
+    pub name: String,
+    pub cases: String,
+    pub answers: String,
 }
 
-/// The files of some cases, each with its answer: a case that does not fit begins a new one.
-pub fn pack(kind: &str, cases: impl Iterator<Item = (String, String)>) -> Vec<File> {
+/// The files of some cases of one kind: a case that does not fit begins a new one.
+fn files_of<C: Vector>(kind: &str, cases: &[C]) -> Vec<File> {
     let mut files: Vec<File> = Vec::new();
-    for (text, answer) in cases {
-        assert!(text.len() <= LONGEST, "a case is longer than a file");
+    for case in cases.iter().filter(|case| case.kind() == kind) {
+        let text = text(&case.words());
         if files.last().is_none_or(|file| file.cases.len() + text.len() > LONGEST) {
             let name = format!("{kind}-{}", files.len() + 1);
             files.push(File { name, ..File::default() });
         }
         if let Some(file) = files.last_mut() {
             file.cases += &text;
-            file.answers += &answer;
+            file.answers += &case.answer().lines();
         }
     }
     files
+}
+
+/// The files of all cases, the kinds in the order in which they first come.
+fn pack<C: Vector>(cases: &[C]) -> Vec<File> {
+    let mut kinds: Vec<&str> = Vec::new();
+    for case in cases {
+        if !kinds.contains(&case.kind()) {
+            kinds.push(case.kind());
+        }
+    }
+    kinds.into_iter().flat_map(|kind| files_of(kind, cases)).collect()
 }
 
 /// Writes files into a folder; gives the names and lengths in bytes of what was written.
@@ -35,6 +49,7 @@ pub fn write(folder: &Path, files: &[File]) -> io::Result<Vec<(String, usize)>> 
     fs::create_dir_all(folder.join("data"))?;
     let (mut names, mut answers, mut written) = (String::new(), String::new(), Vec::new());
     for file in files {
+        assert!(file.cases.len() <= LONGEST, "{} is too long", file.name);
         fs::write(folder.join("data").join(&file.name), &file.cases)?;
         names += &format!("{}\n", file.name);
         answers += &format!("# {}\n{}", file.name, file.answers);
@@ -44,4 +59,22 @@ pub fn write(folder: &Path, files: &[File]) -> io::Result<Vec<(String, usize)>> 
     fs::write(folder.join("stdout"), &answers)?;
     written.push(("stdout".to_string(), answers.len()));
     Ok(written)
+}
+
+/// The names and lengths in bytes of the files written, and what their cases hold.
+pub struct Written<S> {
+    pub files: Vec<(String, usize)>,
+    pub summary: S,
+}
+
+impl<S: fmt::Display> fmt::Display for Written<S> {
+    fn fmt(&self, f: &mut fmt::Formatter<'_>) -> fmt::Result {
+        self.files.iter().try_for_each(|(name, bytes)| writeln!(f, "{name} {bytes} bytes"))?;
+        self.summary.fmt(f)
+    }
+}
+
+/// Writes all cases into a folder and says what was written.
+pub fn write_cases<C: Vector, S: Summed<C>>(folder: &Path, cases: &[C]) -> io::Result<Written<S>> {
+    Ok(Written { files: write(folder, &pack(cases))?, summary: S::of(cases) })
 }

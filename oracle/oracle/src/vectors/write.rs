@@ -1,34 +1,26 @@
 // Writes the number vectors as files: inputs in data/, their names in args, answers in stdout.
 
+use std::io;
 use std::path::Path;
-use std::{fs, io};
 
+use super::pack::{write, File};
 use super::{angles, distances, roots};
-
-/// No data file may be longer.
-const LONGEST: usize = 65_000;
-
-struct File {
-    name: &'static str,
-    rows: String,
-    answers: String,
-}
 
 fn word(x: f32) -> String {
     format!("{:08X}\n", x.to_bits())
 }
 
-fn pairs(name: &'static str, list: &[[u32; 2]], answer: impl Fn(f32, f32) -> String) -> File {
-    let rows = list.iter().map(|[a, b]| format!("{a:08X} {b:08X}\n")).collect();
+fn pairs(name: &str, list: &[[u32; 2]], answer: impl Fn(f32, f32) -> String) -> File {
+    let cases = list.iter().map(|[a, b]| format!("{a:08X} {b:08X}\n")).collect();
     let given = list.iter().map(|pair| pair.map(f32::from_bits));
     let answers = given.map(|[a, b]| answer(a, b)).collect();
-    File { name, rows, answers }
+    File { name: name.to_string(), cases, answers }
 }
 
-fn singles(name: &'static str, list: &[u32], answer: impl Fn(f32) -> String) -> File {
-    let rows = list.iter().map(|a| format!("{a:08X}\n")).collect();
+fn singles(name: &str, list: &[u32], answer: impl Fn(f32) -> String) -> File {
+    let cases = list.iter().map(|a| format!("{a:08X}\n")).collect();
     let answers = list.iter().map(|&a| answer(f32::from_bits(a))).collect();
-    File { name, rows, answers }
+    File { name: name.to_string(), cases, answers }
 }
 
 fn or_refused(answer: Option<f32>) -> String {
@@ -54,17 +46,8 @@ fn files() -> [File; 5] {
 }
 
 /// Writes everything into a folder and says how many rows each file has.
-pub fn write_numbers(folder: &Path) -> io::Result<Vec<(&'static str, usize)>> {
-    fs::create_dir_all(folder.join("data"))?;
-    let (mut names, mut answers, mut counts) = (String::new(), String::new(), Vec::new());
-    for file in files() {
-        assert!(file.rows.len() <= LONGEST, "{} is too long", file.name);
-        fs::write(folder.join("data").join(file.name), &file.rows)?;
-        names += &format!("{}\n", file.name);
-        answers += &format!("# {}\n{}", file.name, file.answers);
-        counts.push((file.name, file.rows.lines().count()));
-    }
-    fs::write(folder.join("args"), names)?;
-    fs::write(folder.join("stdout"), answers)?;
-    Ok(counts)
+pub fn write_numbers(folder: &Path) -> io::Result<Vec<(String, usize)>> {
+    let files = files();
+    write(folder, &files)?;
+    Ok(files.into_iter().map(|file| (file.name, file.cases.lines().count())).collect())
 }

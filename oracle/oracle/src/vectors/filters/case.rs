@@ -1,7 +1,9 @@
 // A case: one call's whole input.
 
-use crate::calls::words_wanted;
+use crate::calls::{self, words_wanted};
+use crate::told::Told;
 use crate::vectors::form::{add_list, bits, said_over, untouched};
+use crate::vectors::{OverQuads, Vector};
 use frame::{Frame, Params};
 
 /// The number that begins the case in a file; those below it are the stages'.
@@ -34,13 +36,6 @@ impl Case {
         Case { frame, quads: quads.concat(), work, kept }
     }
 
-    /// The same, with something changed.
-    pub fn with(&self, change: impl FnOnce(&mut Case)) -> Case {
-        let mut case = self.clone();
-        change(&mut case);
-        case
-    }
-
     /// The same, with these parameters: ratio, least, greatest.
     pub fn by(&self, ratio: f32, least: f32, greatest: f32) -> Case {
         self.with(|case| {
@@ -49,19 +44,23 @@ impl Case {
         })
     }
 
-    /// The words of workspace that the case's lists want.
-    pub fn wanted(&self) -> usize {
-        words_wanted(self.quads.len() / 4, self.frame.corners())
+    /// The lists that the call may change.
+    pub fn lent(&self) -> [Vec<u32>; 2] {
+        [self.work.clone(), self.kept.clone()]
+    }
+}
+
+impl Vector for Case {
+    /// The number of quads kept; then the workspace and the list of kept quads.
+    type Answer = Told<1, 2>;
+
+    fn kind(&self) -> &'static str {
+        "filters"
     }
 
-    /// The whole records of the quad list.
-    pub fn records(&self) -> Vec<[u32; 4]> {
-        self.quads.chunks_exact(4).map(|q| [q[0], q[1], q[2], q[3]]).collect()
-    }
-
-    /// All words of the case: kind, parameters, the length of the quad list, lists; of the quads
-    /// only those that are said over.
-    pub fn words(&self) -> Vec<u32> {
+    /// Kind, parameters, the length of the quad list, lists; of the quads only those that are said
+    /// over.
+    fn words(&self) -> Vec<u32> {
         let params = &self.frame.params;
         let mut words = vec![KIND];
         words.extend(bits(&[params.ratio, params.least, params.greatest]));
@@ -69,8 +68,31 @@ impl Case {
         add_list(&mut words, &bits(&self.frame.x));
         add_list(&mut words, &bits(&self.frame.y));
         add_list(&mut words, said_over(&self.quads));
-        add_list(&mut words, &self.work);
-        add_list(&mut words, &self.kept);
+        self.lent().iter().for_each(|list| add_list(&mut words, list));
         words
+    }
+
+    /// By the ruled build.
+    fn answer(&self) -> Told<1, 2> {
+        Told::by(self.lent(), |[work, kept]| {
+            calls::filters(&self.frame, &self.quads, work, kept).map(|count| [count])
+        })
+    }
+}
+
+impl OverQuads for Case {
+    fn read(&self) -> (usize, [&[u32]; 2]) {
+        (self.frame.corners(), [&self.quads, &self.work])
+    }
+
+    fn lists(&mut self) -> [&mut Vec<u32>; 2] {
+        [&mut self.quads, &mut self.work]
+    }
+
+    /// The corners that are more are all at one place.
+    fn crowd(&mut self, corners: u32) {
+        self.frame.x.resize(corners as usize, 10.0);
+        self.frame.y.resize(corners as usize, 10.0);
+        self.work = untouched(self.wanted());
     }
 }

@@ -2,8 +2,9 @@
 
 use super::shapes::{grid, scattered};
 use super::Case;
-
-type Quad = [u32; 4];
+use crate::calls::records;
+use crate::generate::patterns::{fan, Quad};
+use crate::vectors::OverQuads;
 
 /// Quads that have only corner 0 in common.
 fn spokes(count: u32) -> Vec<Quad> {
@@ -22,12 +23,6 @@ fn bundle(count: u32, across: bool) -> Vec<Quad> {
         }
     };
     (0..count).map(quad).collect()
-}
-
-/// Quads round corner 0, each sharing a side with the next; the last may meet the first.
-fn fan(count: u32, closed: bool) -> Vec<Quad> {
-    let last = |q: u32| if closed && q + 1 == count { 1 } else { 2 * q + 3 };
-    (0..count).map(|q| [0, 2 * q + 1, 2 * q + 2, last(q)]).collect()
 }
 
 /// Some quads at corner 0, some at corner 1, and one that has both.
@@ -100,7 +95,7 @@ fn over_a_sheet(cases: &mut Vec<Case>) {
     ];
     for more in extra {
         let mut quads = sheet.records();
-        quads.extend(more.chunks(4).map(|q| [q[0], q[1], q[2], q[3]]));
+        quads.extend(records(more));
         let case = Case::over(sheet.frame.clone(), &quads);
         cases.push(case.by(1.5, 0.5, 2.0));
         cases.push(case);

@@ -2,6 +2,7 @@
 
 use super::finish::finished;
 use super::Case;
+use crate::generate::patterns::cells;
 use crate::generate::quad_lists::{quad_list, QUAD_KINDS};
 use crate::generate::KINDS;
 use crate::random::Random;
@@ -49,9 +50,7 @@ pub fn noisy_grid(wide: usize, high: usize, noise: f64, random: &mut Random) -> 
         frame.x.push(x as f32);
         frame.y.push(y as f32);
     }
-    let cell = |a: usize| [a, a + 1, a + wide + 1, a + wide].map(|c| c as u32);
-    let rows = (0..high - 1).flat_map(|v| v * wide..v * wide + wide - 1);
-    Case::over(frame, &rows.map(cell).collect::<Vec<_>>())
+    Case::over(frame, &cells(wide as u32 - 1, high as u32 - 1))
 }
 
 /// Corners of a list, on a small lattice where ties are common, or anywhere.

@@ -3,6 +3,7 @@
 use super::Case;
 use crate::random::Random;
 use crate::vectors::form::{moved, untouched};
+use crate::vectors::{work, OverQuads};
 use crate::words::filters::{median, ratio, sides};
 
 /// A ratio of a drawn quad, or a side of it over the median of all, at times one float beside.
@@ -36,13 +37,9 @@ fn draw_params(case: &mut Case, random: &mut Random) {
     }
 }
 
-/// Workspace with or without surplus words; room mostly enough, at times a record short.
+/// A drawn workspace; room mostly enough, at times a record short.
 fn draw_lists(case: &mut Case, random: &mut Random) {
-    let surplus = random.pick(&[0, 0, 1, 17]);
-    case.work = untouched(case.wanted() + surplus);
-    if random.coin() {
-        case.work.fill(random.pick(&[1, 2, u32::MAX]));
-    }
+    work::drawn(case, random);
     let [_, _, answer] = ruled::filter(&case.records(), &case.frame);
     let short = !answer.is_empty() && random.one_in(8);
     let records = if short { answer.len() - 1 } else { answer.len() + random.below(3) };

@@ -4,6 +4,7 @@
 use super::shapes::{cell, columns, row, scattered};
 use super::Case;
 use crate::random::Random;
+use crate::vectors::{OverQuads, Vector};
 
 /// Two rows of cells apart or meeting in one corner; each has its own median.
 fn two_rows(cases: &mut Vec<Case>) {

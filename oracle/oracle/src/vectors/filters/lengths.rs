@@ -2,13 +2,8 @@
 
 use super::shapes::row;
 use super::Case;
-use crate::vectors::form::untouched;
-
-/// Makes a list longer or shorter, and never shorter than nothing.
-fn resize<T: Copy>(list: &mut Vec<T>, by: i32, with: T) {
-    let length = list.len() as i32 + by;
-    list.resize(length.max(0) as usize, with);
-}
+use crate::vectors::form::{resize, untouched};
+use crate::vectors::Vector;
 
 fn single_lists(cases: &mut Vec<Case>, sound: &Case) {
     for by in [-100, -4, -1, 1, 4] {

@@ -1,10 +1,8 @@
 // Vectors for the filters' call.
 
-mod answer;
 mod case;
 mod crowds;
 mod drawn;
-mod files;
 mod finish;
 mod full;
 mod groups;
@@ -20,16 +18,19 @@ mod tiny;
 mod values;
 mod work;
 
-pub use answer::{answer, Answer};
 pub use case::Case;
 pub use drawn::{any_case, noisy_grid};
-pub use files::write_filters;
 pub use finish::damage;
 pub use summary::Summary;
 
+use super::pack::{write_cases, Written};
+use super::vector::gathered;
+use std::io;
+use std::path::Path;
+
 /// All cases, those chosen by hand before the drawn ones.
 pub fn filter_cases() -> Vec<Case> {
-    let makers: [fn(&mut Vec<Case>); 13] = [
+    gathered(&[
         lengths::add,
         rows::add,
         order::add,
@@ -43,8 +44,10 @@ pub fn filter_cases() -> Vec<Case> {
         values::add,
         full::add,
         drawn::add,
-    ];
-    let mut cases = Vec::new();
-    makers.iter().for_each(|add| add(&mut cases));
-    cases
+    ])
+}
+
+/// Writes everything into a folder and says what was written.
+pub fn write_filters(folder: &Path) -> io::Result<Written<Summary>> {
+    write_cases(folder, &filter_cases())
 }

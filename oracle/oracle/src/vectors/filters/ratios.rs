@@ -4,6 +4,7 @@ use super::shapes::{on_a_line, one, row};
 use super::Case;
 use crate::random::Random;
 use crate::vectors::form::moved;
+use crate::vectors::OverQuads;
 use crate::words::filters::{ratio, sides};
 
 /// 1e-6 as a float: a lesser side below it is taken for it.

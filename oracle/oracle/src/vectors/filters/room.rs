@@ -3,6 +3,7 @@
 use super::shapes::{grid, row};
 use super::Case;
 use crate::vectors::form::untouched;
+use crate::vectors::{OverQuads, Vector};
 
 /// Every length from nothing to two records over, where none, one and three quads are kept, and
 /// where the answer has fewer quads than the list given.

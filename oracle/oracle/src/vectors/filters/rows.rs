@@ -2,38 +2,12 @@
 
 use super::shapes::{grid, row};
 use super::Case;
-use crate::vectors::form::untouched;
-use crate::vectors::NANS;
+use crate::vectors::over_quads::{corner_counts, long, names, LENGTHS};
+use crate::vectors::{OverQuads, Vector, GREATEST_POSITIONS, NANS, REFUSED_POSITIONS};
 
 /// Two cells of a row: six corners, eight names.
 fn pair() -> Case {
     row(&[10.0, 10.0]).by(1.5, 0.5, 2.0)
-}
-
-/// More corners, all at one place, and the workspace for them.
-pub fn crowd(case: &mut Case, corners: usize) {
-    case.frame.x.resize(corners, 10.0);
-    case.frame.y.resize(corners, 10.0);
-    case.work = untouched(case.wanted());
-}
-
-fn corner_counts(cases: &mut Vec<Case>) {
-    for corners in [4_095, 4_096, 4_097] {
-        cases.push(pair().with(|case| crowd(case, corners)));
-        cases.push(pair().with(|case| {
-            crowd(case, corners);
-            case.quads[7] = 4_095;
-        }));
-    }
-}
-
-/// Quads of one word repeated: past row 2 the first that is no quad is refused.
-fn quad_counts(cases: &mut Vec<Case>) {
-    for words in [16_380, 16_384, 16_385, 16_387, 16_388, 16_392] {
-        cases.push(pair().with(|case| case.quads.resize(words, 0)));
-    }
-    cases.push(pair().with(|case| case.quads.resize(16_384, 6)));
-    cases.push(pair().with(|case| case.quads.resize(16_388, 6)));
 }
 
 fn parameters(cases: &mut Vec<Case>) {
@@ -54,18 +28,7 @@ fn parameters(cases: &mut Vec<Case>) {
 }
 
 fn positions(cases: &mut Vec<Case>) {
-    let edges = [
-        0x4980_0000,
-        0xC980_0000,
-        0x4980_0001,
-        0xC980_0001,
-        0x7F7F_FFFF,
-        0x7F80_0000,
-        0xFF80_0000,
-        0x7FC0_0000,
-        0xFF80_0001,
-    ];
-    for (i, bits) in edges.into_iter().enumerate() {
+    for (i, bits) in GREATEST_POSITIONS.into_iter().chain(REFUSED_POSITIONS).enumerate() {
         let value = f32::from_bits(bits);
         cases.push(pair().with(|case| case.frame.x[i % 6] = value));
         cases.push(pair().with(|case| case.frame.y[(i + 2) % 6] = value));
@@ -78,22 +41,13 @@ fn positions(cases: &mut Vec<Case>) {
     }
     // a corner that no quad names counts too
     cases.push(grid(2, 1).with(|case| {
-        crowd(case, 7);
+        case.crowd(7);
         case.frame.y[6] = 1_048_577.0;
     }));
     cases.push(pair().with(|case| {
-        crowd(case, 4_096);
+        case.crowd(4_096);
         case.frame.x[4_095] = -1_048_577.0;
     }));
-}
-
-fn names(cases: &mut Vec<Case>) {
-    for place in [0, 3, 7] {
-        for name in [5, 6, u32::MAX] {
-            cases.push(pair().with(|case| case.quads[place] = name));
-        }
-    }
-    cases.push(pair().with(|case| (case.quads[6], case.quads[2]) = (6, 1 << 31)));
 }
 
 fn repeated(cases: &mut Vec<Case>) {
@@ -121,11 +75,12 @@ fn at_the_limits(cases: &mut Vec<Case>) {
 }
 
 pub fn add(cases: &mut Vec<Case>) {
-    corner_counts(cases);
-    quad_counts(cases);
+    corner_counts(cases, &pair(), &[4_095, 4_096, 4_097]);
+    cases.extend(LENGTHS.map(|words| long(&pair(), words, 0)));
+    cases.extend([16_384, 16_388].map(|words| long(&pair(), words, 6)));
     parameters(cases);
     positions(cases);
-    names(cases);
+    names(cases, &pair(), &[0, 3, 7]);
     repeated(cases);
     at_the_limits(cases);
 }

@@ -1,18 +1,14 @@
 // Small quad lists for the cases chosen by hand.
 
 use super::Case;
+use crate::generate::patterns::{cells, corners};
 
 /// Cells of pitch 10, numbered along the rows.
 pub fn grid(wide: u32, high: u32) -> Case {
     let across = wide + 1;
     let at = |c: u32| (10.0 * (c % across) as f32, 10.0 * (c / across) as f32);
     let points: Vec<(f32, f32)> = (0..across * (high + 1)).map(at).collect();
-    let cell = |q: u32| {
-        let a = q / wide * across + q % wide;
-        [a, a + 1, a + across + 1, a + across]
-    };
-    let quads: Vec<[u32; 4]> = (0..wide * high).map(cell).collect();
-    Case::of(&points, &quads)
+    Case::of(&points, &cells(wide, high))
 }
 
 /// The points of a row of cells of height 10 that have these widths: two to a column.
@@ -49,7 +45,6 @@ pub fn one(points: [(f32, f32); 4]) -> Case {
 
 /// All corners of some quads, spread over a lattice of pitch 10.
 pub fn scattered(quads: &[[u32; 4]]) -> Case {
-    let corners = quads.iter().flatten().max().map_or(0, |&c| c + 1);
     let at = |c: u32| (10.0 * (c % 5) as f32, 10.0 * (c / 5) as f32);
-    Case::of(&(0..corners).map(at).collect::<Vec<_>>(), quads)
+    Case::of(&(0..corners(quads)).map(at).collect::<Vec<_>>(), quads)
 }

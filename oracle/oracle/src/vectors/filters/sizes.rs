@@ -4,6 +4,7 @@
 use super::shapes::{on_a_line, one, row};
 use super::Case;
 use crate::vectors::form::moved;
+use crate::vectors::OverQuads;
 use crate::words::filters::{median, sides};
 
 /// A case whose quads are one group, with the least and the greatest at a side over the median,

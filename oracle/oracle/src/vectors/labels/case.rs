@@ -1,7 +1,10 @@
 // A case: one call's whole input.
 
-use crate::calls::{words_wanted, Given};
+use crate::calls::{self, words_wanted, Given};
+use crate::generate::patterns::corners;
+use crate::told::Told;
 use crate::vectors::form::{add_list, said_over, untouched};
+use crate::vectors::{OverQuads, Vector};
 
 /// The number that begins the case in a file; those below it are the stages' and the filters'.
 const KIND: u32 = 5;
@@ -22,7 +25,7 @@ impl Case {
     /// Quads over the corners that they name, with least numbers that drop nothing, the workspace
     /// that is wanted, and more room than any answer fills.
     pub fn of(quads: &[[u32; 4]]) -> Case {
-        let corners = quads.iter().flatten().max().map_or(0, |&c| c + 1);
+        let corners = corners(quads);
         Case {
             quads: quads.concat(),
             corners,
@@ -34,26 +37,9 @@ impl Case {
         }
     }
 
-    /// The same, with something changed.
-    pub fn with(&self, change: impl FnOnce(&mut Case)) -> Case {
-        let mut case = self.clone();
-        change(&mut case);
-        case
-    }
-
     /// The same, with these least numbers of quads and of corners.
     pub fn by(&self, least_quads: u32, least_corners: u32) -> Case {
         self.with(|case| (case.least_quads, case.least_corners) = (least_quads, least_corners))
-    }
-
-    /// The words of workspace that the case's lists want.
-    pub fn wanted(&self) -> usize {
-        words_wanted(self.quads.len() / 4, self.corners as usize)
-    }
-
-    /// The whole records of the quad list.
-    pub fn records(&self) -> Vec<[u32; 4]> {
-        self.quads.chunks_exact(4).map(|q| [q[0], q[1], q[2], q[3]]).collect()
     }
 
     pub fn given(&self) -> Given<'_> {
@@ -65,15 +51,49 @@ impl Case {
         }
     }
 
-    /// All words of the case: kind, least quads, least corners, corners, the length of the quad
-    /// list, lists; of the quads only those that are said over.
-    pub fn words(&self) -> Vec<u32> {
+    /// The lists that the call may change.
+    pub fn lent(&self) -> [Vec<u32>; 3] {
+        [self.work.clone(), self.components.clone(), self.entries.clone()]
+    }
+}
+
+impl Vector for Case {
+    /// The numbers of components and entries; then the workspace, the components and the entries.
+    type Answer = Told<2, 3>;
+
+    fn kind(&self) -> &'static str {
+        "labels"
+    }
+
+    /// Kind, least quads, least corners, corners, the length of the quad list, lists; of the quads
+    /// only those that are said over.
+    fn words(&self) -> Vec<u32> {
         let mut words = vec![KIND, self.least_quads, self.least_corners, self.corners];
         words.push(self.quads.len() as u32);
         add_list(&mut words, said_over(&self.quads));
-        add_list(&mut words, &self.work);
-        add_list(&mut words, &self.components);
-        add_list(&mut words, &self.entries);
+        self.lent().iter().for_each(|list| add_list(&mut words, list));
         words
+    }
+
+    /// By the unchanged walk.
+    fn answer(&self) -> Told<2, 3> {
+        Told::by(self.lent(), |[work, components, entries]| {
+            calls::labels(&self.given(), work, components, entries)
+        })
+    }
+}
+
+impl OverQuads for Case {
+    fn read(&self) -> (usize, [&[u32]; 2]) {
+        (self.corners as usize, [&self.quads, &self.work])
+    }
+
+    fn lists(&mut self) -> [&mut Vec<u32>; 2] {
+        [&mut self.quads, &mut self.work]
+    }
+
+    fn crowd(&mut self, corners: u32) {
+        self.corners = corners;
+        self.work = untouched(self.wanted().min(65_700));
     }
 }

@@ -2,6 +2,7 @@
 // once a turn. Closed, no corner of two turns or more is alone, and the component is empty.
 
 use super::Case;
+use crate::vectors::Vector;
 use std::collections::HashMap;
 
 /// The cells in turn, from a corner of the ring, so that only neighbours in turn meet.

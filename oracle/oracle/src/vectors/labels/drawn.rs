@@ -1,21 +1,18 @@
 // Drawn lists of all kinds, with drawn workspace and room; and damage for long comparisons.
 
-use super::{answer, Case};
+use super::Case;
 use crate::generate::quad_lists::{quad_list, QUAD_KINDS};
 use crate::random::Random;
 use crate::vectors::form::untouched;
+use crate::vectors::{work, OverQuads, Vector};
 
 const SEED: u64 = 23;
 const LISTS: usize = 420;
 
-/// Workspace with or without surplus words; room mostly enough, at times a record short.
+/// A drawn workspace; room mostly enough, at times a record short.
 fn draw_lists(case: &mut Case, random: &mut Random) {
-    let surplus = random.pick(&[0, 0, 1, 17]);
-    case.work = untouched(case.wanted() + surplus);
-    if random.coin() {
-        case.work.fill(random.pick(&[1, 2, u32::MAX]));
-    }
-    let Ok([components, entries]) = answer(case).result else {
+    work::drawn(case, random);
+    let Ok([components, entries]) = case.answer().result else {
         return;
     };
     let room = |wanted: usize, random: &mut Random| match wanted > 0 && random.one_in(10) {

@@ -4,6 +4,7 @@
 use super::shapes::grid;
 use super::Case;
 use crate::vectors::form::untouched;
+use crate::vectors::{OverQuads, Vector};
 
 /// The workspace and the room for any answer of 4,096 quads.
 fn lent(case: &mut Case) {

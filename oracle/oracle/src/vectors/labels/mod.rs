@@ -1,10 +1,8 @@
 // Vectors for the labelling's call.
 
-mod answer;
 mod case;
 mod covers;
 mod drawn;
-mod files;
 mod full;
 mod order;
 mod room;
@@ -14,16 +12,19 @@ mod small;
 mod summary;
 mod work;
 
-pub use answer::{answer, Answer};
 pub use case::Case;
 pub use drawn::{any_case, damage};
-pub use files::write_labels;
 pub use shapes::grid;
 pub use summary::Summary;
 
+use super::pack::{write_cases, Written};
+use super::vector::gathered;
+use std::io;
+use std::path::Path;
+
 /// All cases, those chosen by hand before the drawn ones.
 pub fn label_cases() -> Vec<Case> {
-    let makers: [fn(&mut Vec<Case>); 9] = [
+    gathered(&[
         rows::add,
         order::add,
         work::add,
@@ -33,8 +34,10 @@ pub fn label_cases() -> Vec<Case> {
         full::add,
         small::add,
         drawn::add,
-    ];
-    let mut cases = Vec::new();
-    makers.iter().for_each(|add| add(&mut cases));
-    cases
+    ])
+}
+
+/// Writes everything into a folder and says what was written.
+pub fn write_labels(folder: &Path) -> io::Result<Written<Summary>> {
+    write_cases(folder, &label_cases())
 }

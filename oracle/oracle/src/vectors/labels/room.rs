@@ -1,8 +1,10 @@
 // Rows 9 and 10: the room of the lists of components and of entries, in whole records of three.
 
-use super::shapes::{apart, fan, grid};
+use super::shapes::{apart, grid};
 use super::Case;
+use crate::generate::patterns::fan;
 use crate::vectors::form::untouched;
+use crate::vectors::{OverQuads, Vector};
 
 /// Lengths of either list from nothing to a record over, where there is one component, none, one
 /// with a hole, and several.

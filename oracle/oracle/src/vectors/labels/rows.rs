@@ -2,7 +2,8 @@
 
 use super::shapes::grid;
 use super::Case;
-use crate::vectors::form::untouched;
+use crate::vectors::over_quads::{corner_counts, long, names, LENGTHS};
+use crate::vectors::{OverQuads, Vector};
 
 /// Two cells of a row: six corners, eight names.
 fn pair() -> Case {
@@ -16,8 +17,7 @@ fn whole(cases: &mut Vec<Case>) {
     cases.push(Case::of(&[]));
     // corners without quads, and no word of room anywhere
     cases.push(Case::of(&[]).with(|case| {
-        case.corners = 3;
-        case.work = untouched(48);
+        case.crowd(3);
         case.components.clear();
         case.entries.clear();
     }));
@@ -25,41 +25,6 @@ fn whole(cases: &mut Vec<Case>) {
         case.components.clear();
         case.entries.clear();
     }));
-}
-
-/// A number of corners, and the workspace for it where that is of a size to be lent.
-pub fn crowd(case: &mut Case, corners: u32) {
-    case.corners = corners;
-    case.work = untouched(case.wanted().min(65_700));
-}
-
-fn corner_counts(cases: &mut Vec<Case>) {
-    for corners in [4_095, 4_096, 4_097, u32::MAX] {
-        cases.push(pair().with(|case| crowd(case, corners)));
-        cases.push(pair().with(|case| {
-            crowd(case, corners);
-            case.quads[7] = 4_095;
-        }));
-    }
-}
-
-/// Quads of one word repeated: past row 2 the first that is no quad is refused.
-fn quad_counts(cases: &mut Vec<Case>) {
-    for words in [16_380, 16_384, 16_385, 16_387, 16_388, 16_392] {
-        cases.push(pair().with(|case| case.quads.resize(words, 0)));
-        cases.push(pair().with(|case| case.quads.resize(words, 6)));
-    }
-}
-
-fn names(cases: &mut Vec<Case>) {
-    for place in 0..8 {
-        for name in [5, 6, u32::MAX] {
-            cases.push(pair().with(|case| case.quads[place] = name));
-        }
-    }
-    cases.push(pair().with(|case| (case.quads[6], case.quads[2]) = (6, 1 << 31)));
-    cases.push(pair().with(|case| crowd(case, 5)));
-    cases.push(pair().with(|case| crowd(case, 0)));
 }
 
 fn repeated(cases: &mut Vec<Case>) {
@@ -85,9 +50,10 @@ fn least_numbers(cases: &mut Vec<Case>) {
 
 pub fn add(cases: &mut Vec<Case>) {
     whole(cases);
-    corner_counts(cases);
-    quad_counts(cases);
-    names(cases);
+    corner_counts(cases, &pair(), &[4_095, 4_096, 4_097, u32::MAX]);
+    cases.extend(LENGTHS.iter().flat_map(|&words| [0, 6].map(|word| long(&pair(), words, word))));
+    names(cases, &pair(), &[0, 1, 2, 3, 4, 5, 6, 7]);
+    cases.extend([5, 0].map(|corners| pair().with(|case| case.crowd(corners))));
     repeated(cases);
     least_numbers(cases);
 }

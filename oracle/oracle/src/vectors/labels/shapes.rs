@@ -1,34 +1,19 @@
 // Lists made by hand: each shape in several orders of its quads, begun elsewhere, run the other
 // way, and at the least numbers that part it.
 
-use super::{answer, Case};
+use super::Case;
+use crate::generate::patterns::{band, cells, distinct, fan, Quad};
 use crate::random::Random;
-
-type Quad = [u32; 4];
+use crate::vectors::Vector;
 
 /// The cells of a grid of so many cells by so many.
 pub fn grid(wide: u32, high: u32) -> Case {
-    let cell = |a: u32| [a, a + 1, a + wide + 2, a + wide + 1];
-    let cells = (0..high).flat_map(|v| (0..wide).map(move |u| v * (wide + 1) + u));
-    Case::of(&cells.map(cell).collect::<Vec<_>>())
+    Case::of(&cells(wide, high))
 }
 
 /// Three groups in turn; the first and the last meet in corner 0.
 pub fn apart() -> Case {
     Case::of(&[[0, 1, 2, 3], [6, 7, 8, 9], [1, 4, 5, 2], [0, 10, 11, 12]])
-}
-
-/// Quads round corner 0, each sharing a side with the next; closed, the last meets the first.
-pub fn fan(count: u32, closed: bool) -> Vec<Quad> {
-    let last = |q: u32| if closed && q + 1 == count { 1 } else { 2 * q + 3 };
-    (0..count).map(|q| [0, 2 * q + 1, 2 * q + 2, last(q)]).collect()
-}
-
-/// A row of cells whose end is its start again, possibly with a twist.
-fn band(count: u32, twist: bool) -> Vec<Quad> {
-    let ends = if twist { [1, 0] } else { [0, 1] };
-    let next = |q: u32| if q + 1 == count { ends } else { [2 * q + 2, 2 * q + 3] };
-    (0..count).map(|q| [2 * q, next(q)[0], next(q)[1], 2 * q + 1]).collect()
 }
 
 /// A row of cells in which one corner is taken for another.
@@ -77,14 +62,10 @@ fn shapes() -> Vec<Vec<Quad>> {
     shapes.extend((0..8).map(|back| on_one_side(3, back)));
     shapes.extend((0..16).map(|back| on_one_side(4, back)));
     for (wide, high) in [(1, 1), (3, 3), (1, 6), (7, 2)] {
-        shapes.push(grid(wide, high).records());
+        shapes.push(cells(wide, high));
     }
     shapes.iter_mut().for_each(|quads| quads.retain(distinct));
     shapes
-}
-
-fn distinct(quad: &Quad) -> bool {
-    (0..4).all(|i| !quad[..i].contains(&quad[i]))
 }
 
 /// The list as it is, backwards, and shuffled with quads begun elsewhere and one run the other way.
@@ -102,9 +83,9 @@ fn orders(quads: &[Quad], random: &mut Random) -> [Vec<Quad>; 3] {
 
 /// The first component's corners are at the least, and one over it.
 fn critical(case: &Case, cases: &mut Vec<Case>) {
-    let full = answer(case);
+    let full = case.answer();
     if matches!(full.result, Ok([components, _]) if components > 0) {
-        let count = full.components[1];
+        let count = full.lists[1][1];
         cases.push(case.by(1, count));
         cases.push(case.by(1, count + 1));
     }

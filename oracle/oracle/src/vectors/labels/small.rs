@@ -2,8 +2,9 @@
 // has a side in common with one before it; up to renaming and to where the later quads begin.
 
 use super::Case;
-
-type Quad = [u32; 4];
+use crate::demand::neighbours;
+use crate::generate::patterns::{corners, distinct, Quad};
+use crate::vectors::Vector;
 
 /// The quads that begin at their lowest corner and take new ones in order, over so many corners.
 fn later(known: u32, most: u32) -> Vec<Quad> {
@@ -16,26 +17,16 @@ fn later(known: u32, most: u32) -> Vec<Quad> {
             next += (corner == next) as u32;
             corner < next
         });
-        let distinct = (0..4).all(|i| !quad[..i].contains(&quad[i]));
-        if in_order && distinct && quad.iter().all(|&corner| quad[0] <= corner) {
+        if in_order && distinct(&quad) && quad.iter().all(|&corner| quad[0] <= corner) {
             quads.push(quad);
         }
     }
     quads
 }
 
-fn corners(quads: &[Quad]) -> u32 {
-    quads.iter().flatten().max().map_or(0, |&c| c + 1)
-}
-
 /// Whether a quad has a side in common with one of these.
 fn joined(quad: &Quad, others: &[Quad]) -> bool {
-    let side = |q: &Quad, k: usize| {
-        let (a, b) = (q[k], q[(k + 1) % 4]);
-        (a.min(b), a.max(b))
-    };
-    let sides = |q: &Quad| [0, 1, 2, 3].map(|k| side(q, k));
-    others.iter().any(|other| sides(other).iter().any(|s| sides(quad).contains(s)))
+    others.iter().any(|other| neighbours(quad, other))
 }
 
 /// The list with its later quads begun in turn at each corner, and lists of one word before.

@@ -3,37 +3,37 @@
 use super::{Case, Kind};
 use crate::calls;
 use crate::judge::Refusal;
-use crate::vectors::form::{counted, refused, runs};
+use crate::told::Told;
+use crate::vectors;
+use crate::vectors::form::refused;
 use frame::AxisPair;
 
 /// The result or the refusal, with the final content of the list that the call may change.
 pub enum Answer {
     Axis(Result<AxisPair, Refusal>),
-    Classes(Result<(), Refusal>, Vec<u32>),
-    Quads(Result<usize, Refusal>, Vec<u32>),
+    Classes(Told<0, 1>),
+    Quads(Told<1, 1>),
 }
 
-impl Answer {
-    pub fn refusal(&self) -> Option<Refusal> {
+impl vectors::Answer for Answer {
+    fn refusal(&self) -> Option<Refusal> {
         match self {
             Answer::Axis(result) => result.err(),
-            Answer::Classes(result, _) => result.err(),
-            Answer::Quads(result, _) => result.err(),
+            Answer::Classes(told) => told.refusal(),
+            Answer::Quads(told) => told.refusal(),
         }
     }
-}
 
-/// What the ruled build gives, or the table of refusals.
-pub fn answer(case: &Case) -> Answer {
-    match case.kind {
-        Kind::Axis => Answer::Axis(calls::axis_cache(&case.frame)),
-        Kind::Classes => {
-            let mut list = case.classes.clone();
-            Answer::Classes(calls::classes(&case.frame, &mut list), list)
-        }
-        Kind::Quads => {
-            let mut list = case.quads.clone();
-            Answer::Quads(calls::quads(&case.frame, &case.classes, &mut list), list)
+    fn lines(&self) -> String {
+        match self {
+            Answer::Axis(Ok(pair)) => {
+                let [a, b] = pair.angles.map(word);
+                let [m, n] = pair.informative.map(u32::from);
+                format!("cache {a:08X} {b:08X} {m} {n}\n")
+            }
+            Answer::Axis(Err(refusal)) => refused(refusal) + "\n",
+            Answer::Classes(told) => told.lines(),
+            Answer::Quads(told) => told.lines(),
         }
     }
 }
@@ -47,19 +47,17 @@ fn word(x: f32) -> u32 {
     }
 }
 
-/// The lines of an answer.
-pub fn lines(answer: &Answer) -> String {
-    match answer {
-        Answer::Axis(Ok(pair)) => {
-            let [a, b] = pair.angles.map(word);
-            let [m, n] = pair.informative.map(u32::from);
-            format!("cache {a:08X} {b:08X} {m} {n}\n")
+/// What the ruled build gives, or the table of refusals.
+pub fn answer(case: &Case) -> Answer {
+    match case.kind {
+        Kind::Axis => Answer::Axis(calls::axis_cache(&case.frame)),
+        Kind::Classes => {
+            let call = |list: &mut [u32]| calls::classes(&case.frame, list).map(|()| []);
+            Answer::Classes(Told::by([case.classes.clone()], |[list]| call(list)))
         }
-        Answer::Axis(Err(refusal)) => refused(refusal) + "\n",
-        Answer::Classes(result, list) => {
-            let first = result.as_ref().map_or_else(refused, |()| "done".to_string());
-            format!("{first}\n{}\n", runs(list))
+        Kind::Quads => {
+            let call = |list: &mut [u32]| calls::quads(&case.frame, &case.classes, list);
+            Answer::Quads(Told::by([case.quads.clone()], |[list]| call(list).map(|n| [n])))
         }
-        Answer::Quads(result, list) => format!("{}\n{}\n", counted(result), runs(list)),
     }
 }

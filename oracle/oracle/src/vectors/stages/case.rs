@@ -1,6 +1,9 @@
 // A case: one call's whole input.
 
+use super::answer::{answer, Answer};
+use super::words::words;
 use crate::vectors::form::untouched;
+use crate::vectors::Vector;
 use frame::Frame;
 
 #[derive(Clone, Copy, Debug, PartialEq, Eq)]
@@ -51,11 +54,20 @@ impl Case {
         let classes = ruled::classes(&frame);
         Case::quads(frame, classes)
     }
+}
 
-    /// The same, with something changed.
-    pub fn with(&self, change: impl FnOnce(&mut Case)) -> Case {
-        let mut case = self.clone();
-        change(&mut case);
-        case
+impl Vector for Case {
+    type Answer = Answer;
+
+    fn kind(&self) -> &'static str {
+        self.kind.name()
+    }
+
+    fn words(&self) -> Vec<u32> {
+        words(self)
+    }
+
+    fn answer(&self) -> Answer {
+        answer(self)
     }
 }

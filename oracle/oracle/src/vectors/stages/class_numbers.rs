@@ -5,6 +5,7 @@ use std::collections::BTreeSet;
 use super::meshes::{set_axes, square};
 use super::Case;
 use crate::vectors::form::moved;
+use crate::vectors::Vector;
 use frame::Frame;
 use rules::{angle, distance, HALF_PI};
 

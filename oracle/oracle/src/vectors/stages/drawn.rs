@@ -5,6 +5,7 @@ use super::Case;
 use crate::generate::{damage::damage, KINDS};
 use crate::random::Random;
 use crate::vectors::form::untouched;
+use crate::vectors::Vector;
 use frame::Frame;
 
 const SEED: u64 = 6;

@@ -2,14 +2,9 @@
 
 use super::meshes::{square, strip};
 use super::{Case, Kind};
-use crate::vectors::form::untouched;
+use crate::vectors::form::{resize, untouched};
+use crate::vectors::Vector;
 use frame::{Frame, NONE};
-
-/// Makes a list longer or shorter, and never shorter than nothing.
-fn resize<T: Copy>(list: &mut Vec<T>, by: i32, with: T) {
-    let length = list.len() as i32 + by;
-    list.resize(length.max(0) as usize, with);
-}
 
 type Change = fn(&mut Case, i32);
 

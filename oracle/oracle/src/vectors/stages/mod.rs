@@ -7,7 +7,6 @@ mod class_axes;
 mod class_lists;
 mod class_numbers;
 mod drawn;
-mod files;
 mod lengths;
 mod meshes;
 mod order;
@@ -19,14 +18,18 @@ mod summary;
 mod twins;
 mod words;
 
-pub use answer::{answer, Answer};
+pub use answer::Answer;
 pub use case::{Case, Kind};
-pub use files::write_stages;
 pub use summary::Summary;
+
+use super::pack::{write_cases, Written};
+use super::vector::gathered;
+use std::io;
+use std::path::Path;
 
 /// All cases, those chosen by hand before the drawn ones.
 pub fn stage_cases() -> Vec<Case> {
-    let makers: [fn(&mut Vec<Case>); 10] = [
+    gathered(&[
         axis::add,
         lengths::add,
         rows::add,
@@ -37,8 +40,10 @@ pub fn stage_cases() -> Vec<Case> {
         twins::add,
         quad_shapes::add,
         drawn::add,
-    ];
-    let mut cases = Vec::new();
-    makers.iter().for_each(|add| add(&mut cases));
-    cases
+    ])
+}
+
+/// Writes everything into a folder and says what was written.
+pub fn write_stages(folder: &Path) -> io::Result<Written<Summary>> {
+    write_cases(folder, &stage_cases())
 }

@@ -1,13 +1,12 @@
-// Two faults of different rows at once, and all faults from a row on: the lower row wins.
+// Faults of every row, for the order in which the rows are tried.
 
 use super::meshes::strip;
 use super::rows::crowd;
 use super::{Case, Kind};
-
-type Fault = (u32, fn(&mut Case));
+use crate::vectors::faults::{self, Fault};
 
 /// Faults with their rows. Row 5 has two: a corner, and a class, which the classes call lacks.
-const FAULTS: [Fault; 10] = [
+const FAULTS: [(u32, Fault<Case>); 10] = [
     (1, |case| case.frame.y.truncate(case.frame.y.len() - 1)),
     (2, |case| crowd(&mut case.frame, 4_097)),
     (3, |case| case.frame.params.tolerance = f32::NAN),
@@ -27,21 +26,9 @@ fn has(kind: Kind, row: u32) -> bool {
     }
 }
 
-/// Later faults first, so that the list of corners is as long as it will be.
-fn faulty(sound: &Case, faults: &[usize]) -> Case {
-    sound.with(|case| faults.iter().rev().for_each(|&fault| FAULTS[fault].1(case)))
-}
-
 pub fn add(cases: &mut Vec<Case>) {
     for sound in [Case::classes(strip(2)), Case::quads_of(strip(2))] {
-        let own: Vec<usize> =
-            (0..FAULTS.len()).filter(|&fault| has(sound.kind, FAULTS[fault].0)).collect();
-        for (i, &low) in own.iter().enumerate() {
-            cases.push(faulty(&sound, &own[i..]));
-            cases.push(faulty(&sound, &[low]));
-            for &high in &own[i + 1..] {
-                cases.push(faulty(&sound, &[low, high]));
-            }
-        }
+        let own = FAULTS.iter().filter(|(row, _)| has(sound.kind, *row));
+        faults::add(cases, &sound, &own.map(|(_, fault)| *fault).collect::<Vec<_>>());
     }
 }

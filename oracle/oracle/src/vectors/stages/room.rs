@@ -3,6 +3,7 @@
 use super::meshes::{square, strip};
 use super::Case;
 use crate::vectors::form::untouched;
+use crate::vectors::Vector;
 
 /// Every length from nothing to more than two records over, for one quad and for three.
 fn all_lengths(cases: &mut Vec<Case>) {

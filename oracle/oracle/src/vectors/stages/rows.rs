@@ -2,7 +2,7 @@
 
 use super::meshes::{square, strip};
 use super::{Case, Kind};
-use crate::vectors::NANS;
+use crate::vectors::{Vector, GREATEST_POSITIONS, NANS, REFUSED_POSITIONS};
 use frame::{Frame, NONE};
 
 fn both(cases: &mut Vec<Case>, frame: &Frame, change: impl Fn(&mut Case)) {
@@ -63,19 +63,8 @@ fn parameters(cases: &mut Vec<Case>) {
 }
 
 fn positions(cases: &mut Vec<Case>) {
-    let edges = [
-        0x4980_0000,
-        0xC980_0000,
-        0x497F_FFFF,
-        0x4980_0001,
-        0xC980_0001,
-        0x7F7F_FFFF,
-        0x7F80_0000,
-        0xFF80_0000,
-        0x7FC0_0000,
-        0xFF80_0001,
-    ];
-    for (i, bits) in edges.into_iter().enumerate() {
+    let inside = GREATEST_POSITIONS.into_iter().chain([0x497F_FFFF]);
+    for (i, bits) in inside.chain(REFUSED_POSITIONS).enumerate() {
         let value = f32::from_bits(bits);
         both(cases, &strip(2), |case| case.frame.x[i % 6] = value);
         both(cases, &strip(2), |case| case.frame.y[(i + 2) % 6] = value);

@@ -2,6 +2,7 @@
 
 use super::meshes::{mesh, strip, SQUARE};
 use super::Case;
+use crate::vectors::Vector;
 use frame::{Frame, NONE};
 
 /// A strip has 12 half-edges. Twins: 2 with 3, 1 with 11, 8 with 9.

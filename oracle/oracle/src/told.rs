@@ -1,0 +1,37 @@
+// What a call tells and leaves, whole, so that two answers to one call can be held together.
+
+use crate::judge::Refusal;
+
+/// The counts that a call gives or its refusal, and the final content of every list that it may
+/// change.
+#[derive(Clone, Debug, PartialEq, Eq)]
+pub struct Told<const COUNTS: usize, const LISTS: usize> {
+    pub result: Result<[usize; COUNTS], Refusal>,
+    pub lists: [Vec<u32>; LISTS],
+}
+
+impl<const COUNTS: usize, const LISTS: usize> Told<COUNTS, LISTS> {
+    /// What a call tells and leaves that is lent these lists.
+    pub fn by(
+        mut lists: [Vec<u32>; LISTS],
+        call: impl FnOnce(&mut [Vec<u32>; LISTS]) -> Result<[usize; COUNTS], Refusal>,
+    ) -> Self {
+        let result = call(&mut lists);
+        Told { result, lists }
+    }
+
+    /// Where two answers part first: in what they tell, or at a word of a list.
+    pub fn parted(&self, other: &Self) -> Option<String> {
+        if self.result != other.result {
+            return Some(format!("{:?} and {:?}", self.result, other.result));
+        }
+        let pairs = self.lists.iter().zip(&other.lists).enumerate();
+        let mut parted = pairs.filter(|(_, (a, b))| a != b);
+        parted.next().map(|(list, (a, b))| first_word(list, a, b))
+    }
+}
+
+fn first_word(list: usize, a: &[u32], b: &[u32]) -> String {
+    let equal = a.iter().zip(b).take_while(|(a, b)| a == b).count();
+    format!("list {list}, word {equal}: {:?} and {:?}", a.get(equal), b.get(equal))
+}

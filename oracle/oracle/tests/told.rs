@@ -1,0 +1,22 @@
+// Two answers are held together whole: what they tell, and every word of every list.
+
+use oracle::judge::Refusal;
+use oracle::told::Told;
+
+fn told(count: usize, last: &[u32]) -> Told<1, 2> {
+    Told { result: Ok([count]), lists: [vec![0, 0], last.to_vec()] }
+}
+
+#[test]
+fn where_answers_part() {
+    let right = told(1, &[7, 8, 9]);
+    let said = |other: &Told<1, 2>| right.parted(other).unwrap_or_default();
+    assert_eq!(right.parted(&right.clone()), None);
+    assert!(said(&told(2, &[7, 8, 9])).contains("Ok([2])"));
+    assert_eq!(said(&told(1, &[7, 8, 0])), "list 1, word 2: Some(9) and Some(0)");
+    assert_eq!(said(&told(1, &[7, 8])), "list 1, word 2: Some(9) and None");
+    let refused = Told { result: Err(Refusal { row: 9, place: 1 }), ..right.clone() };
+    assert!(right.parted(&refused).is_some());
+    let elsewhere = Told { result: Err(Refusal { row: 9, place: 2 }), ..right.clone() };
+    assert!(refused.parted(&elsewhere).is_some());
+}
