@@ -10,7 +10,7 @@ use Rattle.words.specs.Order.{Room, Ordered, keyOf}
 use Rattle.words.proofs.Cuts.{ascends}
 use Rattle.cells.specs.Cells.{cell}
 use Rattle.cells.specs.Table.{unmarked, tableAt, spareAt, groupsEnd, Sound}
-use Rattle.cells.specs.Sides.{keyAt, numberAt, sideKey, tableKey, Stands, Tabled, Listed}
+use Rattle.cells.specs.Sides.{keyAt, numberAt, sideKey, tableKey, Stands, Tabled, Tabulated}
 use Rattle.cells.proofs.Places.{cell-before, place-below, some-place}
 use Rattle.cells.proofs.Keys.{small-key}
 
@@ -56,8 +56,8 @@ module _ (size : ℕ) (cells : List ℕ) (n : ℕ) (xs ys zs : List ℕ) (S : So
   orders : (k : ℕ) → k < size * n → keyOf ys (tableAt n) (O .order .from k) ≡ keyAt n zs k
   orders k h = low-bits _ (small-words (O .order .from k) (O .order .from-lt k h)) ∙ sym (O .words k 0 h (omega arith))
 
-  pub listed : Listed size cells n xs zs
-  listed = record {
+  pub tabulated : Tabulated size cells n xs zs
+  tabulated = record {
     kept = record {
       len = O .len ∙ T .kept .len;
       rest = λ k o. O .rest k (λ j l. o j (omega arith)) (λ j l e. o (2 * (size * n) + j) (omega arith) (omega arith)) ∙ T .kept .rest k (λ j l. o j (omega arith));

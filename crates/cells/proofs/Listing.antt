@@ -56,6 +56,10 @@ add-inj a m n e = omega (arith, of e, sum a (pos m), sum a (pos n), up-pos m, up
 at-zero : (z a : ℤ) (m : ℕ) → m ≡ 0 → z ≡ a +ℤ pos m → z ≡ a
 at-zero z a m e f = to (omega (arith, of f, sum a (pos m), up-pos m))
 
+-- `at` is an entry's number along an axis of pairs
+abbrev Adds : (Pair → ℤ) → (Entry → ℕ) → Type 0
+Adds along at = (p : Pair) (e : Entry) → along (p ⊕ (pos (e .u), pos (e .v))) ≡ along p +ℤ pos (at e)
+
 module _ (k : Kind) (w : Laws k) (cells : List ℕ) (s : ℕ) (L M : ℕ → Pair) (fl : Fits k cells s L) (fm : Fits k cells s M) (es fs : List Entry) (l : Listed k cells s L es) (m : Listed k cells s M fs) where
   -- an entry of es has one of fs on the same corner
   partner : (e : Entry) → In e es → Some fs (λ f. f .corner ≡ e .corner)
@@ -65,20 +69,12 @@ module _ (k : Kind) (w : Laws k) (cells : List ℕ) (s : ℕ) (L M : ℕ → Pai
   pair-of : (e : Entry) → In e es → (f : Entry) → In f fs → f .corner ≡ e .corner → l .least ⊕ (pos (e .u), pos (e .v)) ≡ m .least ⊕ (pos (f .u), pos (f .v))
   pair-of e i f j c = sym (l .pairs e i) ∙ one-labelling k w cells fl fm (l .lone e i .reached) ∙ ap M (sym c) ∙ m .pairs f j
 
-  -- so the shift of fs is no greater than that of es
-  low-u : (e : Entry) → In e es → record { n : ℕ; is : l .least .0 ≡ m .least .0 +ℤ pos n }
-  low-u e i =
-      let z = l .zero-u e i in
+  -- so along an axis the shift of fs is no greater than that of es
+  low : (along : Pair → ℤ) (at : Entry → ℕ) → Adds along at → Some es (λ f. at f ≡ 0) → record { n : ℕ; is : along (l .least) ≡ along (m .least) +ℤ pos n }
+  low along at adds z =
       let p = partner (z .entry) (z .among) in
       let q = pair-of (z .entry) (z .among) (p .entry) (p .among) (p .is) in
-      record { n = p .entry .u; is = sym (at-zero (m .least .0 +ℤ pos (p .entry .u)) (l .least .0) (z .entry .u) (z .is) (sym (ap (λ (r : Pair). r .0) q))) }
-
-  low-v : (e : Entry) → In e es → record { n : ℕ; is : l .least .1 ≡ m .least .1 +ℤ pos n }
-  low-v e i =
-      let z = l .zero-v e i in
-      let p = partner (z .entry) (z .among) in
-      let q = pair-of (z .entry) (z .among) (p .entry) (p .among) (p .is) in
-      record { n = p .entry .v; is = sym (at-zero (m .least .1 +ℤ pos (p .entry .v)) (l .least .1) (z .entry .v) (z .is) (sym (ap (λ (r : Pair). r .1) q))) }
+      record { n = at (p .entry); is = sym (at-zero (along (m .least) +ℤ pos (at (p .entry))) (along (l .least)) (at (z .entry)) (z .is) (sym (adds (m .least) (p .entry)) ∙ sym (ap along q) ∙ adds (l .least) (z .entry))) }
 
 -- ---- one listing
 
@@ -89,20 +85,23 @@ pub entry-eq : {e f : Entry} → e .u ≡ f .u → e .v ≡ f .v → e .corner �
 entry-eq {e} {f} a b c = ap₂ (λ (u v : ℕ). made u v (e .corner)) a b ∙ ap (λ (d : ℕ). made (f .u) (f .v) d) c
 
 module _ (k : Kind) (w : Laws k) (cells : List ℕ) (s : ℕ) where
-  within : (L M : ℕ → Pair) (fl : Fits k cells s L) (fm : Fits k cells s M) (es fs : List Entry) (l : Listed k cells s L es) (m : Listed k cells s M fs) (e : Entry) → In e es → In e fs
-  within L M fl fm es fs l m e i =
-      let p = partner k w cells s L M fl fm es fs l m e i in
-      let f = p .entry in
-      let q = pair-of k w cells s L M fl fm es fs l m e i f (p .among) (p .is) in
-      let lu = low-u k w cells s L M fl fm es fs l m e i in
-      let lv = low-v k w cells s L M fl fm es fs l m e i in
-      let mu = low-u k w cells s M L fm fl fs es m l f (p .among) in
-      let mv = low-v k w cells s M L fm fl fs es m l f (p .among) in
-      let a : l .least .0 ≡ m .least .0 = meet (l .least .0) (m .least .0) (lu .n) (mu .n) (lu .is) (mu .is) in
-      let b : l .least .1 ≡ m .least .1 = meet (l .least .1) (m .least .1) (lv .n) (mv .n) (lv .is) (mv .is) in
-      let c : e .u ≡ f .u = add-inj (m .least .0) (e .u) (f .u) (ap (λ (z : ℤ). z +ℤ pos (e .u)) (sym a) ∙ ap (λ (r : Pair). r .0) q) in
-      let d : e .v ≡ f .v = add-inj (m .least .1) (e .v) (f .v) (ap (λ (z : ℤ). z +ℤ pos (e .v)) (sym b) ∙ ap (λ (r : Pair). r .1) q) in
-      subst (λ (g : Entry). In g fs) (sym (entry-eq c d (sym (p .is)))) (p .among)
+  module _ (L M : ℕ → Pair) (fl : Fits k cells s L) (fm : Fits k cells s M) (es fs : List Entry) (l : Listed k cells s L es) (m : Listed k cells s M fs) where
+    -- the shifts are the same, and so are the numbers of two entries on one corner
+    same-at : (along : Pair → ℤ) (at : Entry → ℕ) → Adds along at → Some es (λ g. at g ≡ 0) → Some fs (λ g. at g ≡ 0) → (e : Entry) → In e es → (f : Entry) → In f fs → f .corner ≡ e .corner → at e ≡ at f
+    same-at along at adds y z e i f j c =
+        let a = low k w cells s L M fl fm es fs l m along at adds y in
+        let b = low k w cells s M L fm fl fs es m l along at adds z in
+        let shift : along (l .least) ≡ along (m .least) = meet (along (l .least)) (along (m .least)) (a .n) (b .n) (a .is) (b .is) in
+        let q = pair-of k w cells s L M fl fm es fs l m e i f j c in
+        add-inj (along (m .least)) (at e) (at f) (ap (λ (z : ℤ). z +ℤ pos (at e)) (sym shift) ∙ sym (adds (l .least) e) ∙ ap along q ∙ adds (m .least) f)
+
+    within : (e : Entry) → In e es → In e fs
+    within e i =
+        let p = partner k w cells s L M fl fm es fs l m e i in
+        let f = p .entry in
+        let c : e .u ≡ f .u = same-at (λ r. r .0) (λ g. g .u) (λ r g. refl) (l .zero-u e i) (m .zero-u f (p .among)) e i f (p .among) (p .is) in
+        let d : e .v ≡ f .v = same-at (λ r. r .1) (λ g. g .v) (λ r g. refl) (l .zero-v e i) (m .zero-v f (p .among)) e i f (p .among) (p .is) in
+        subst (λ (g : Entry). In g fs) (sym (entry-eq c d (sym (p .is)))) (p .among)
 
   pub determined-listing : {L M : ℕ → Pair} {es fs : List Entry} → Fits k cells s L → Fits k cells s M → Listed k cells s L es → Listed k cells s M fs → es ≡ fs
   determined-listing {L} {M} {es} {fs} fl fm l m = same-sorted (l .ordered) (m .ordered) (within L M fl fm es fs l m) (within M L fm fl fs es m l)

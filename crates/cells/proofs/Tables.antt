@@ -7,9 +7,10 @@ use native.Mathlib.Nat.{mul-le-mul-left}
 use native.Mathlib.Decide.{ℕ-discrete}
 use native.Mathlib.Omega.{arith}
 use lib.Dec.{eqb}
-use lib.ListN.{length, getD, set, length-set}
-use lib.Seq.{getD-set-same, getD-set-other}
-use Rattle.words.proofs.Regions.{kept-refl, kept-set}
+use lib.ListN.{length}
+use Rattle.words.specs.Regions.{two}
+use Rattle.words.proofs.Regions.{kept-refl}
+use Rattle.words.proofs.Moving.{two-cases, two-past, two-kept}
 use Rattle.cells.specs.Table.{tableAt, groupsEnd}
 use Rattle.cells.specs.Sides.{sideKey, tableKey, Stands, Tabled}
 use Rattle.cells.proofs.Places.{cell-before, own-place}
@@ -29,7 +30,7 @@ module _ (size : ℕ) (cells : List ℕ) (n : ℕ) (xs ys : List ℕ) (q i key n
   place = 2 * n + 2 * (size * q + i)
 
   abbrev longer : List ℕ
-  longer = set (set ys place key) (place + 1) number
+  longer = two ys place key number
 
   within : size * q + size ≤ size * n
   within = cell-before size q n hq
@@ -37,16 +38,13 @@ module _ (size : ℕ) (cells : List ℕ) (n : ℕ) (xs ys : List ℕ) (q i key n
   fits : place + 1 < length ys
   fits = omega (arith, within, T .kept .len)
 
-  past : (k : ℕ) → (k ≡ place → ⊥) → (k ≡ place + 1 → ⊥) → getD longer k 0 ≡ getD ys k 0
-  past k a b = getD-set-other (set ys place key) (place + 1) k number 0 b ∙ getD-set-other ys place k key 0 a
-
   new : (p j : ℕ) → p ≡ q → j ≡ i → Stands size cells n xs longer (size * p + j) p j
   new p j ep ej = rw (ep, ej) (record {
     place = omega (arith, within);
     has = hq;
     small = hi;
-    key = ap (λ (k : ℕ). getD longer k 0) (omega arith) ∙ getD-set-other (set ys place key) (place + 1) place number 0 (omega arith) ∙ getD-set-same ys place key 0 (omega (arith, fits)) ∙ ek ∙ same-mark T q i hq;
-    number = getD-set-same (set ys place key) (place + 1) number 0 (simp length-set fits) ∙ en;
+    key = two-cases (λ (z : ℕ). z ≡ tableKey size cells xs q i) ys place key number (place + 0) fits (λ e. ek ∙ same-mark T q i hq) (λ e. absurd (omega arith)) (λ a b. absurd (omega (arith, a)));
+    number = two-cases (λ (z : ℕ). z ≡ 4 * q + i) ys place key number (place + 1) fits (λ e. absurd (omega arith)) (λ e. en) (λ a b. absurd (omega (arith, b)));
   })
 
   old : (p j : ℕ) → (size * p + j ≡ size * q + i → ⊥) → Stands size cells n xs ys (size * p + j) p j → Stands size cells n xs longer (size * p + j) p j
@@ -54,13 +52,13 @@ module _ (size : ℕ) (cells : List ℕ) (n : ℕ) (xs ys : List ℕ) (q i key n
     place = s .place;
     has = s .has;
     small = s .small;
-    key = past (tableAt n + 2 * (size * p + j) + 0) (λ e. ne (omega arith)) (λ e. omega arith) ∙ s .key;
-    number = past (tableAt n + 2 * (size * p + j) + 1) (λ e. omega arith) (λ e. ne (omega arith)) ∙ s .number;
+    key = two-past ys place key number (tableAt n + 2 * (size * p + j) + 0) (λ e. ne (omega arith)) (λ e. omega arith) ∙ s .key;
+    number = two-past ys place key number (tableAt n + 2 * (size * p + j) + 1) (λ e. omega arith) (λ e. ne (omega arith)) ∙ s .number;
   }
 
   pub tabled-more : (t : ℕ) → t ≡ size * q + i + 1 → Tabled size cells n xs longer t
   tabled-more t et = record {
-    kept = kept-set (kept-set (T .kept) place key (omega arith) (omega (arith, within))) (place + 1) number (omega arith) (omega (arith, within));
+    kept = two-kept (T .kept) place key number (omega arith) (omega (arith, within));
     stands = λ p j hj hp l. go p j hj hp l (ℕ-discrete (size * p + j) (size * q + i));
   }
     where

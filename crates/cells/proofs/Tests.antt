@@ -66,15 +66,15 @@ module _ {A : Type 0} (test : A → Bool) where
     pub among : In one xs
     pub is : test one ≡ b
 
+  here-or : {b : Bool} {C : Type 0} (x : A) {xs : List A} → (test x ≡ b) ⊎ C → (C → Where b xs) → Where b (x ∷ xs)
+  here-or x (inl t) r = record { one = x; among = first refl; is = t }
+  here-or x (inr t) r =
+      let a = r t in
+      record { one = a .one; among = later (a .among); is = a .is }
+
   pub some-in : (xs : List A) → some-one test xs ≡ true → Where true xs
   some-in [] e = never (sym e)
-  some-in (x ∷ xs) e = go (either (test x) (some-one test xs) e) (λ t. some-in xs t)
-    where
-      go : (test x ≡ true) ⊎ (some-one test xs ≡ true) → (some-one test xs ≡ true → Where true xs) → Where true (x ∷ xs)
-      go (inl t) r = record { one = x; among = first refl; is = t }
-      go (inr t) r =
-          let a = r t in
-          record { one = a .one; among = later (a .among); is = a .is }
+  some-in (x ∷ xs) e = here-or x (either (test x) (some-one test xs) e) (λ t. some-in xs t)
 
   pub in-some : {x : A} {xs : List A} → In x xs → test x ≡ true → some-one test xs ≡ true
   in-some (first {f = y} {es = ys} p) e = or-left (test y) (some-one test ys) (ap test (sym p) ∙ e)
@@ -83,13 +83,7 @@ module _ {A : Type 0} (test : A → Bool) where
   -- where not every one passes, one does not
   pub fails : (xs : List A) → every-one test xs ≡ false → Where false xs
   fails [] e = never e
-  fails (x ∷ xs) e = go (not-both (test x) (every-one test xs) e) (λ t. fails xs t)
-    where
-      go : (test x ≡ false) ⊎ (every-one test xs ≡ false) → (every-one test xs ≡ false → Where false xs) → Where false (x ∷ xs)
-      go (inl t) r = record { one = x; among = first refl; is = t }
-      go (inr t) r =
-          let a = r t in
-          record { one = a .one; among = later (a .among); is = a .is }
+  fails (x ∷ xs) e = here-or x (not-both (test x) (every-one test xs) e) (λ t. fails xs t)
 
 -- ---- members of a list that is made of another
 

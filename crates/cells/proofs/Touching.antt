@@ -13,7 +13,7 @@ use Rattle.cells.specs.Cells.Touch.{alike, opposite}
 use Rattle.cells.specs.Groups.{Linked}
 use Rattle.cells.specs.Groups.Linked.{same, on}
 use Rattle.cells.specs.Table.{unmarked, groupsEnd, Sound}
-use Rattle.cells.specs.Sides.{keyAt, numberAt, sideKey, Stands, InTable, Listed, Near, Ready, Named, Grouped}
+use Rattle.cells.specs.Sides.{keyAt, numberAt, sideKey, Stands, InTable, Tabulated, Near, Ready, Named, Grouped}
 use Rattle.cells.proofs.Links.{turned}
 use Rattle.cells.proofs.Groups.{same-groups}
 use Rattle.cells.proofs.Places.{cell-before, next-corner}
@@ -26,7 +26,7 @@ takes-part : (takes : Bool) (key : ℕ) → (cond takes key 0 ≡ 0 → ⊥) →
 takes-part true key h = (refl, refl)
 takes-part false key h = absurd (h refl)
 
-module _ (size : ℕ) (cells : List ℕ) (n : ℕ) (xs ys : List ℕ) (S : Sound size cells n) (L : Listed size cells n xs ys) where
+module _ (size : ℕ) (cells : List ℕ) (n : ℕ) (xs ys : List ℕ) (S : Sound size cells n) (L : Tabulated size cells n xs ys) where
   -- the number of a record says its cell
   cell-of : {k q i : ℕ} → Stands size cells n xs ys k q i → numberAt n ys k / 4 ≡ q
   cell-of s = omega (arith, s .number, s .small, S .most)

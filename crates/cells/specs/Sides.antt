@@ -10,7 +10,7 @@ use Rattle.words.specs.Order.{wordOf}
 use Rattle.cells.specs.Cells.{cell, Neighbours}
 use Rattle.cells.specs.Groups.{Groups}
 use Rattle.cells.specs.Forest.{Classes}
-use Rattle.cells.specs.Table.{unmarked, groupsAt, tableAt, groupsEnd}
+use Rattle.cells.specs.Table.{unmarked, groupsAt, tableAt, groupsEnd, mostCells}
 
 -- the key and the number of record k
 abbrev pub keyAt : ℕ → List ℕ → ℕ → ℕ
@@ -55,7 +55,7 @@ module _ (size : ℕ) (cells : List ℕ) where
       pub ascends : (j k : ℕ) → j ≤ k → k < size * n → keyAt n ys j ≤ keyAt n ys k
 
     -- the table is in order; all before it, and all past the room for its ordering, is as it was
-    pub record Listed : Type 0 where
+    pub record Tabulated : Type 0 where
       pub kept : Kept xs ys (tableAt n) (4 * (size * n))
       pub table : InTable
 
@@ -70,7 +70,7 @@ pub record Near (n : ℕ) (ys : List ℕ) (k x y : ℕ) : Type 0 where
 
 -- each of the first m records is of a cell below n
 pub record Ready (n m : ℕ) (ys : List ℕ) : Type 0 where
-  pub few : n ≤ 8192
+  pub few : n ≤ mostCells
   pub room : tableAt n + 2 * m ≤ length ys
   pub within : (k : ℕ) → k < m → numberAt n ys k / 4 < n
 

@@ -24,6 +24,10 @@ spareAt size n = 2 * n + 2 * (size * n)
 abbrev pub groupsEnd : ℕ → ℕ → ℕ
 groupsEnd size n = 2 * n + 4 * (size * n)
 
+-- the most cells of a list, of any kind: as many as triangles
+abbrev pub mostCells : ℕ
+mostCells = 8192
+
 -- every corner is one of 4,096
 abbrev pub Corners : List ℕ → Type 0
 Corners cells = (k : ℕ) → k < length cells → getD cells k 0 < 4096
@@ -33,6 +37,6 @@ pub record Sound (size : ℕ) (cells : List ℕ) (n : ℕ) : Type 0 where
   pub least : 3 ≤ size
   pub most : size ≤ 4
   pub whole : length cells ≡ size * n
-  pub few : n ≤ 8192
+  pub few : n ≤ mostCells
   pub corners : Corners cells
   pub proper : (q i : ℕ) → q < n → i < size → cell size cells q i ≡ cell size cells q (i + 1) → ⊥

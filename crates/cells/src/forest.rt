@@ -3,6 +3,7 @@
 ghost use Prim.Native.Nat.{_≤_, _<_};
 ghost use lib.ListN.{length};
 ghost use Rattle.cells.specs.Forest.{Low, Found, Joined, Alone, Flat};
+ghost use Rattle.cells.specs.Table.{mostCells};
 use words::inner::wide;
 
 // The root above x. Each number passed is made to point past its parent, so that chains stay short.
@@ -26,7 +27,7 @@ fn find(p: &mut [u32], x: usize) -> usize
 pub(crate) fn join(p: &mut [u32], a: usize, b: usize)
     requires { ⌜ Low (now p) ⌝ }
     requires { ⌜ (a < length (now p)) × (b < length (now p)) ⌝ }
-    requires { ⌜ length (now p) ≤ 65536 ⌝ }
+    requires { ⌜ length (now p) ≤ mostCells ⌝ }
     ensures { λ _. ⌜ Joined (now (p .entry)) (now (p .exit)) a b ⌝ }
 {
     let ra = find(p, a);
@@ -40,7 +41,7 @@ pub(crate) fn join(p: &mut [u32], a: usize, b: usize)
 
 // Every number points at itself.
 pub(crate) fn alone(p: &mut [u32])
-    requires { ⌜ length (now p) ≤ 65536 ⌝ }
+    requires { ⌜ length (now p) ≤ mostCells ⌝ }
     ensures { λ _. ⌜ Alone (length (now (p .entry))) (length (now (p .entry))) (now (p .exit)) ⌝ }
 {
     let mut i = 0;

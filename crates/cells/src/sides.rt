@@ -3,13 +3,14 @@
 // In the workspace marks stand at 0, groups at n, the table at 2 * n, and room for its ordering after it.
 ghost use mathlib.Core.Path.{_≡_};
 ghost use Prim.Native.Nat.{_+_, _*_, _-_, _%_, _≤_, _<_};
-ghost use lib.ListN.{length, set};
+ghost use lib.ListN.{length};
 ghost use Rattle.cells.specs.Cells.{Has};
 ghost use Rattle.cells.specs.Forest.{Classes};
-ghost use Rattle.cells.specs.Table.{Corners, Sound, groupsEnd};
-ghost use Rattle.cells.specs.Sides.{endsKey, sideKey, tableKey, Tabled, Listed, Near, Ready, groupsOf, United, Named};
+ghost use Rattle.cells.specs.Table.{Corners, Sound, groupsEnd, mostCells};
+ghost use Rattle.cells.specs.Sides.{endsKey, sideKey, tableKey, Tabled, Tabulated, Near, Ready, groupsOf, United, Named};
 use crate::forest;
 use words::inner::order::order_keys;
+use words::inner::order::put;
 use words::inner::wide;
 
 // The side after i, counted round.
@@ -22,7 +23,7 @@ fn next_side(size: usize, i: usize) -> usize
 
 // The cell that has the side after i of q.
 fn next_cell(size: usize, q: usize, i: usize) -> usize
-    requires { ⌜ (i < size) × (q < 8192) ⌝ }
+    requires { ⌜ (i < size) × (q < mostCells) ⌝ }
     ensures { λ r. ⌜ size * r + (i + 1) % size ≡ size * q + i + 1 ⌝ }
 {
     if i + 1 == size { q + 1 } else { q }
@@ -58,14 +59,6 @@ fn table_key(cells: &[u32], size: usize, work: &[u32], q: usize, i: usize) -> u3
     side_key(cells, size, q, i)
 }
 
-fn put(work: &mut [u32], at: usize, key: u32, number: u32)
-    requires { ⌜ at + 1 < length (now work) ⌝ }
-    ensures { λ _. ⌜ now (work .exit) ≡ set (set (now (work .entry)) at key) (at + 1) number ⌝ }
-{
-    work[at] = key;
-    work[at + 1] = number;
-}
-
 // The table by cells, each cell's sides in order.
 fn fill(cells: &[u32], size: usize, n: usize, work: &mut [u32])
     requires { ⌜ Sound size (now cells) n ⌝ }
@@ -86,7 +79,7 @@ fn fill(cells: &[u32], size: usize, n: usize, work: &mut [u32])
 pub(crate) fn list_sides(cells: &[u32], size: usize, n: usize, work: &mut [u32])
     requires { ⌜ Sound size (now cells) n ⌝ }
     requires { ⌜ groupsEnd size n ≤ length (now work) ⌝ }
-    ensures { λ _. ⌜ Listed size (now (cells .entry)) n (now (work .entry)) (now (work .exit)) ⌝ }
+    ensures { λ _. ⌜ Tabulated size (now (cells .entry)) n (now (work .entry)) (now (work .exit)) ⌝ }
 {
     fill(cells, size, n, work);
     let m = size * n;

@@ -19,6 +19,7 @@ use cells::inner::groups;
 use measure::inner::float_of;
 use measure::inner::is_finite;
 use words::inner::order::order_in_groups;
+use words::inner::order::put;
 use words::inner::wide;
 
 // A record for every side: its length, and the group of its quad.
@@ -28,8 +29,9 @@ fn write_records(work: &mut [u32], n: usize)
 {
     let mut e = 0;
     while e < 4 * n {
-        work[TABLE * n + 2 * e] = work[LENGTHS * n + e];
-        work[TABLE * n + 2 * e + 1] = work[n + e / 4];
+        let length = work[LENGTHS * n + e];
+        let group = work[n + e / 4];
+        put(work, TABLE * n + 2 * e, length, group);
         e += 1;
     }
 }

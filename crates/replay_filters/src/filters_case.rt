@@ -1,14 +1,14 @@
 // Kind 4: the quads that the filters keep.
 ghost use Prim.Native.Nat.{_≤_};
 ghost use lib.ListN.{length};
-ghost use Rattle.vectors.specs.Lists.{Front, Onward};
+ghost use Rattle.vectors.specs.Lists.{Onward};
 use filter::FilterParams;
 use filter::Filtered;
 use measure::inner::float_of;
 use vectors::inner::list::after;
 use vectors::inner::list::fill;
 use vectors::inner::list::fill_floats;
-use vectors::inner::list::least;
+use vectors::inner::list::say_over;
 use vectors::inner::runs::write_count;
 use vectors::inner::runs::write_refusal;
 use vectors::inner::runs::write_runs;
@@ -48,20 +48,6 @@ fn params_at(text: &[u8], at: usize) -> FilterParams
         least: float_of(word_at(text, after(text, at, 1))),
         greatest: float_of(word_at(text, after(text, at, 2))),
     }
-}
-
-// Says the first words of a list over up to a length, or as far as there is room; answers how many words that is.
-fn say_over(list: &mut [u32], given: usize, words: u32) -> usize
-    requires { ⌜ given ≤ length (now list) ⌝ }
-    ensures { λ r. ⌜ Front r (now (list .exit)) ⌝ }
-{
-    let count = least(words as usize, list.len());
-    let mut i = given;
-    while i < count {
-        list[i] = list[i - given];
-        i += 1;
-    }
-    count
 }
 
 // The room for quads, which ends the case.

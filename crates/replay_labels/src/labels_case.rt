@@ -1,10 +1,10 @@
 // Kind 5: the components of a list of quads, and their entries.
 ghost use Prim.Native.Nat.{_≤_};
 ghost use lib.ListN.{length};
-ghost use Rattle.vectors.specs.Lists.{Front, Onward};
+ghost use Rattle.vectors.specs.Lists.{Onward};
 use vectors::inner::list::after;
 use vectors::inner::list::fill;
-use vectors::inner::list::least;
+use vectors::inner::list::say_over;
 use vectors::inner::runs::write_refusal;
 use vectors::inner::runs::write_runs;
 use vectors::word_at;
@@ -43,20 +43,6 @@ fn label_lists(
     write_runs(work);
     write_runs(components);
     write_runs(entries);
-}
-
-// Says the first words of a list over up to a length, or as far as there is room; answers how many words that is.
-fn say_over(list: &mut [u32], given: usize, words: u32) -> usize
-    requires { ⌜ given ≤ length (now list) ⌝ }
-    ensures { λ r. ⌜ Front r (now (list .exit)) ⌝ }
-{
-    let count = least(words as usize, list.len());
-    let mut i = given;
-    while i < count {
-        list[i] = list[i - given];
-        i += 1;
-    }
-    count
 }
 
 // The room for entries, which ends the case.

@@ -1,3 +1,4 @@
 pub mod Round
 pub mod Laying
+pub mod Over
 pub mod Lines

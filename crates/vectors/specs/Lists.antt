@@ -3,7 +3,7 @@
 use mathlib.Core.Bool.{cond}
 use mathlib.Core.List.{List}
 use mathlib.Core.Path.{_≡_, sym}
-use Prim.Native.Nat.{ℕ, _+_, _*_, _-_, _/_, _≤_, _<_}
+use Prim.Native.Nat.{ℕ, _+_, _*_, _-_, _/_, _%_, _≤_, _<_}
 use lib.Dec.{ltb}
 use lib.ListN.{length, getD, take}
 use lib.Seq.{length-take-le}
@@ -33,6 +33,10 @@ elementOf text start given fill i = cond (ltb i given) (wordAt text (start + 9 *
 -- of the list at `at`
 abbrev pub elementAt : List ℕ → ℕ → ℕ → ℕ → ℕ
 elementAt text at room i = elementOf text (afterOf text at 3) (givenAt text at room) (wordAt text (at + 18)) i
+
+-- element k where the first `given` words of a list are said over and over; where none is given each stays
+abbrev pub overAt : List ℕ → ℕ → ℕ → ℕ
+overAt list given k = getD list (k % given) 0
 
 -- the first n elements are f's, and all others are as they were
 pub record Laid {A : Type 0} (blank : A) (before after : List A) (n : ℕ) (f : ℕ → A) : Type 0 where

@@ -21,3 +21,12 @@ pub fn load(name: &[u8], text: &mut [u8]) -> usize
     libc::close(fd);
     n
 }
+
+// The same for the file that argument i names.
+pub fn load_argument(i: usize, text: &mut [u8]) -> usize
+    ensures { λ r. ⌜ Counts r (now (text .exit)) ⌝ }
+{
+    let mut name = io::buffer();
+    let length = os::arg(i, &mut name);
+    load(&name[..length], text)
+}

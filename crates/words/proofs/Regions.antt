@@ -42,13 +42,10 @@ filled-more {xs} {ys} {a} {m} {n} {f} {v} q h b e = record {
 
 -- a region that grows by the word after it: the words from there on are as they were, so that a loop may still read them
 pub filled-grow : {xs ys : List ℕ} {a q : ℕ} {f : ℕ → ℕ} (p v : ℕ) → Filled xs ys a q q f → p ≡ a + q → p < length xs → v ≡ f q → Filled xs (set ys p v) a (q + 1) (q + 1) f
-filled-grow {xs} {ys} {a} {q} {f} p v s at h e = record {
-  kept = record {
-    len = length-set ys p v ∙ s .kept .len;
-    rest = λ k o. getD-set-other ys p k v 0 (λ i. o q (omega arith) (i ∙ at)) ∙ s .kept .rest k (λ j l i. o j (omega arith) i);
-  };
-  holds = λ k l. set-cases (λ (z : ℕ). z ≡ f k) ys p v (a + k) (omega (arith, s .kept .len)) (λ i. e ∙ ap f (omega arith)) (λ i. s .holds k (omega (arith, i)));
-}
+filled-grow {xs} {ys} {a} {q} {f} p v s at h e = rw at (filled-more wider (omega arith) (omega arith) e)
+  where
+    wider : Filled xs ys a (q + 1) q f
+    wider = record { kept = record { len = s .kept .len; rest = λ k o. s .kept .rest k (λ j l i. o j (omega arith) i) }; holds = s .holds }
 
 -- a store at place p of a region that is filled changes what it holds at p alone
 pub filled-at : {xs ys : List ℕ} {a m : ℕ} {f : ℕ → ℕ} (g : ℕ → ℕ) (p v : ℕ) → Filled xs ys a m m f → a + m ≤ length xs → p < m → v ≡ g p → ((k : ℕ) → (k ≡ p → ⊥) → f k ≡ g k) → Filled xs (set ys (a + p) v) a m m g

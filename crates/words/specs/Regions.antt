@@ -1,8 +1,12 @@
--- Regions of a lent list: which places are outside one, what stays as it was, and what a region holds after a routine.
+-- Regions of a lent list: a record of two words stored, which places are outside one, what stays as it was, and what a region holds after a routine.
 use mathlib.Core.Path.{_≡_}
 use mathlib.Core.List.{List}
 use Prim.Native.Nat.{ℕ, _+_, _<_}
-use lib.ListN.{length, getD}
+use lib.ListN.{length, getD, set}
+
+-- xs with x and y at p and the place after it
+abbrev pub two : List ℕ → ℕ → ℕ → ℕ → List ℕ
+two xs p x y = set (set xs p x) (p + 1) y
 
 -- place k is none of the m from a on
 abbrev pub Outside : ℕ → ℕ → ℕ → Type 0

@@ -4,7 +4,7 @@ ghost use Prim.Native.Nat.{ℕ, _+_, _*_, _<_, _≤_};
 ghost use lib.Ieee.{nan, binary32, ofBits};
 ghost use lib.ListN.{length};
 ghost use Rattle.vectors.specs.Hex.{wordAt};
-ghost use Rattle.vectors.specs.Lists.{afterOf, leastOf, lengthAt, givenAt, elementOf, elementAt, nextAt, Laid, Front, Onward};
+ghost use Rattle.vectors.specs.Lists.{afterOf, leastOf, lengthAt, givenAt, elementOf, elementAt, nextAt, overAt, Laid, Front, Onward};
 use crate::word_at;
 use measure::inner::float_of;
 
@@ -23,7 +23,7 @@ pub struct Filled {
 }
 
 // The lesser of two.
-pub fn least(a: usize, b: usize) -> usize
+fn least(a: usize, b: usize) -> usize
     ensures { λ r. ⌜ (r ≡ leastOf a b) × (r ≤ a) × (r ≤ b) ⌝ }
 {
     if a < b { a } else { b }
@@ -101,4 +101,19 @@ pub fn fill_floats(text: &[u8], at: usize, out: &mut [f32]) -> Filled
         length: count,
         next: head.start + 9 * head.given,
     }
+}
+
+// Says the first words of a list over up to a length, or as far as there is room; answers how many words that is.
+pub fn say_over(list: &mut [u32], given: usize, words: u32) -> usize
+    requires { ⌜ given ≤ length (now list) ⌝ }
+    ensures is { λ r. ⌜ (r ≡ leastOf words (length (now (list .entry)))) × Laid 0 (now (list .entry)) (now (list .exit)) r (overAt (now (list .entry)) given) ⌝ }
+    ensures within { λ r. ⌜ Front r (now (list .exit)) ⌝ }
+{
+    let count = least(words as usize, list.len());
+    let mut i = given;
+    while i < count {
+        list[i] = list[i - given];
+        i += 1;
+    }
+    count
 }

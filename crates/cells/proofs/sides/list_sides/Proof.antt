@@ -1,6 +1,6 @@
 -- `list_sides`: the filled table, rearranged.
 use native.Mathlib.Omega.{arith}
-use Rattle.cells.proofs.InOrder.{order-room, listed}
+use Rattle.cells.proofs.InOrder.{order-room, tabulated}
 use borrow.Author.Needs.{needs}
 use Rattle.cells.proofs.sides.list_sides.Statement.{statement}
 use Rattle.cells.proofs.sides.list_sides.Tie as tie
@@ -30,7 +30,7 @@ same-length : tie.Need-same-length
 same-length c = search needs
 
 returns : tie.Need-returns
-returns c = listed _ _ _ _ _ _ (c .before .before .before .before .before .before .before .before .before .before .pre .0) (c .before .before .before .before .before .before .fill .ensures) (c .before .before .order-keys .ensures)
+returns c = tabulated _ _ _ _ _ _ (c .before .before .before .before .before .before .before .before .before .before .pre .0) (c .before .before .before .before .before .before .fill .ensures) (c .before .before .order-keys .ensures)
 
 pub list-sides-spec : {M : Type 1} → statement M
 list-sides-spec =
