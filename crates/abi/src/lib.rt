@@ -4,11 +4,11 @@ ghost use Rattle.measure.specs.Angle.{angleOf};
 ghost use Rattle.measure.specs.Distance.{distanceOf};
 ghost use Rattle.measure.specs.RootComputed.{rootOf};
 ghost use Rattle.abi.specs.Answers.{numberFrom, apartFrom, countFrom, FilterTold, countsFrom, LabelTold};
+use fates::LabelParams;
 use filter::FilterParams;
 use filter::Filtered;
 use measure::Distance;
 use measure::Measured;
-use walk::LabelParams;
 use walk::Labelled;
 
 // refused is 0 beside a value; else it is the refusal's number, place its place, and value 0.
@@ -155,17 +155,17 @@ pub extern "C" fn ngeunsadok_filter_quads(
 pub extern "C" fn ngeunsadok_label_components(
     quads: &[u32],
     corners: u32,
-    least_quads: u32,
-    least_corners: u32,
+    leastquads: u32,
+    leastcorners: u32,
     work: &mut [u32],
     components: &mut [u32],
     entries: &mut [u32],
 ) -> Counts
-    ensures { λ r. ⌜ LabelTold (record { quads = now (quads .entry); corners = corners; params = record { quads = «least_quads»; corners = «least_corners» } }) (now (work .entry)) (now (components .entry)) (now (entries .entry)) r (now (work .exit)) (now (components .exit)) (now (entries .exit)) ⌝ }
+    ensures { λ r. ⌜ LabelTold (record { quads = now (quads .entry); corners = corners; params = record { quads = leastquads; corners = leastcorners } }) (now (work .entry)) (now (components .entry)) (now (entries .entry)) r (now (work .exit)) (now (components .exit)) (now (entries .exit)) ⌝ }
 {
     let params = LabelParams {
-        quads: least_quads,
-        corners: least_corners,
+        quads: leastquads,
+        corners: leastcorners,
     };
     tell_labelled(walk::label_components(quads, corners, params, work, components, entries))
 }

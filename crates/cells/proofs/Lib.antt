@@ -2,6 +2,8 @@ pub mod Links
 pub mod Parents
 pub mod Classes
 pub mod Groups
+pub mod NoMore
+pub mod Counted
 pub mod Places
 pub mod Keys
 pub mod Tables

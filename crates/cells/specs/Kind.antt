@@ -69,3 +69,13 @@ module _ (k : Kind) (cells : List ℕ) where
   pub record Lone (seed : ℕ) (L : ℕ → Pair) (c : ℕ) : Type 0 where
     pub reached : ReachedCorner seed c
     pub alone : (d : ℕ) → ReachedCorner seed d → L d ≡ L c → d ≡ c
+
+  -- two reached corners have the pair p
+  pub record Claimed (seed : ℕ) (L : ℕ → Pair) (p : Pair) : Type 0 where
+    pub c : ℕ
+    pub d : ℕ
+    pub two : c ≢ d
+    pub first : ReachedCorner seed c
+    pub second : ReachedCorner seed d
+    pub at-c : L c ≡ p
+    pub at-d : L d ≡ p

@@ -4,6 +4,7 @@ pub mod Forest
 pub mod Table
 pub mod Sides
 pub mod Kind
+pub mod Counted
 pub mod Quads
 pub mod Listed
 pub mod Holes

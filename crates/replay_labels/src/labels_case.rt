@@ -2,13 +2,13 @@
 ghost use Prim.Native.Nat.{_≤_};
 ghost use lib.ListN.{length};
 ghost use Rattle.vectors.specs.Lists.{Onward};
+use fates::LabelParams;
 use vectors::inner::list::after;
 use vectors::inner::list::fill;
 use vectors::inner::list::say_over;
 use vectors::inner::runs::write_refusal;
 use vectors::inner::runs::write_runs;
 use vectors::word_at;
-use walk::LabelParams;
 use walk::Labelled;
 
 fn write_counts(components: u32, entries: u32) {

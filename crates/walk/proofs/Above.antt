@@ -4,8 +4,8 @@ use Prim.Native.Nat.{ℕ, _-_, _≤_}
 use native.Mathlib.Omega.{arith}
 use lib.IntN.{pos, _+ℤ_, _-ℤ_}
 use Rattle.cells.proofs.Whole.{sum, to, up-pos}
-use Rattle.walk.specs.Layout.{label}
-use Rattle.walk.proofs.Reading.{word-sum, step-sum}
+use Rattle.laying.specs.Layout.{label}
+use Rattle.laying.proofs.Reading.{word-sum, step-sum}
 
 pub over : (x y : ℕ) → y ≤ x → label x ≡ label y +ℤ pos (x - y)
 over x y h = to (omega (arith, word-sum x, word-sum y, sum (label y) (pos (x - y)), up-pos (x - y)))

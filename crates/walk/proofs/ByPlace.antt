@@ -16,7 +16,7 @@ use Rattle.cells.specs.Listed.Before.{by-u, by-v}
 use Rattle.cells.proofs.Listing.{add-inj}
 use Rattle.walk.specs.Read.{entryAt, entriesFrom}
 use Rattle.walk.specs.Demanded.{Place, AtLeast, Lists}
-use Rattle.walk.proofs.Spread.{no-more}
+use Rattle.cells.proofs.NoMore.{no-more}
 
 -- ---- the entries of a list, by place
 

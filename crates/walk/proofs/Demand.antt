@@ -1,7 +1,8 @@
 -- Demand 3, of the words in the caller's lists after a call that is done: a group has a component exactly when it has all that is demanded,
--- its assignment is the only one, its component lists exactly the lone corners, and the holes are counted. All of it follows from the
--- contract `Allowed`, whose outcome is the only one (`determined`). Assumes nothing.
+-- which is when its fate is to be kept; its assignment is the only one, its component lists exactly the lone corners, the holes are counted.
+-- All of it follows from the contract `Allowed`, whose outcome is the only one (`determined`). Assumes nothing.
 use mathlib.Core.Path.{_≡_, sym, ap, _∙_, subst}
+use mathlib.Core.Bool.{true}
 use mathlib.Core.List.{List}
 use Prim.Native.Nat.{ℕ, _+_, _<_}
 use native.Mathlib.Omega.{arith}
@@ -12,6 +13,8 @@ use Rattle.cells.specs.Listed.{Component}
 use Rattle.cells.specs.Quads.{quads}
 use Rattle.cells.proofs.Unique.{one-labelling}
 use Rattle.cells.proofs.Squares.{quad-laws}
+use Rattle.fates.specs.declared.Fate.{Fate}
+use Rattle.fates.specs.Judged.{Becomes, isKept}
 use Rattle.walk.specs.declared.Labelled.the-variants.{Done}
 use Rattle.walk.specs.Input.{Input, quadCount, GroupsOf, grouping, Answer}
 use Rattle.walk.specs.Call.{Outcome, Allowed}
@@ -25,6 +28,7 @@ use Rattle.walk.proofs.Origins.Told.{one, none}
 use Rattle.walk.proofs.ByPlace.{lists, entries-count, entries-are}
 use Rattle.walk.proofs.Success.{Success, success}
 use Rattle.walk.proofs.Reasons.{listed-under, component-demanded, dropped-lacks, not-both}
+use Rattle.walk.proofs.ByFate.{kept-demanded, demanded-kept}
 
 -- two assignments that fit from a quad agree on every corner reached from it
 pub only : (cells : List ℕ) (s c : ℕ) (L M : ℕ → Pair) → Fits quads cells s L → Fits quads cells s M → ReachedCorner quads cells s c → L c ≡ M c
@@ -107,6 +111,11 @@ module _ (i : Input) (work components entries : List ℕ) (o : Outcome) (allowed
         go : Demanded i number s → Decided s → Place k (λ j. seed j ≡ s)
         go d (kept p c) = p
         go d (dropped n m) = absurd (not-both i number s m d)
+
+    -- and exactly when its fate is to be kept
+    pub kept-yields : (s : ℕ) → s < quadCount i → number s ≡ s → (f : Fate) → Becomes (i .quads) (grouping i number) s f
+        → (Place k (λ j. seed j ≡ s) → isKept f ≡ true) × (isKept f ≡ true → Place k (λ j. seed j ≡ s))
+    kept-yields s h e f b = (λ p. demanded-kept i number s f b e (demanded-of s p), λ t. exists s h e .1 (kept-demanded i number s f b t))
 
     -- under every assignment that fits, component j lists exactly the lone corners with their shifted pairs
     pub exactly-the-lone : (j : ℕ) → j < k → (L : ℕ → Pair) → Fits quads (i .quads) (seed j) L

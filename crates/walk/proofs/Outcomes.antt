@@ -13,16 +13,15 @@ use Rattle.refusal.specs.Rows.{_then_}
 use Rattle.mesh.specs.Lists.{mostQuads}
 use Rattle.cells.specs.Listed.{Entry}
 use Rattle.walk.specs.declared.Labelled.the-variants.{Done, Refused}
-use Rattle.walk.specs.Input.{Input, quadCount, grouping, Answer}
+use Rattle.walk.specs.Input.{Input, quadCount, Answer}
 use Rattle.walk.specs.Call.{allEntries, entryGate, roomRow, entriesRow, Outcome, outcomeBy, Allowed}
 use Rattle.walk.specs.Call.Allowed.{refused as by-rows, labelled as by-answer}
-use Rattle.walk.specs.Layout.{Given}
-use Rattle.walk.specs.Fates.{loneAt}
+use Rattle.laying.specs.Layout.{Given}
 use Rattle.walk.specs.Emitted.{outTo}
-use Rattle.walk.specs.Emitting.{Lined, Counted, Written}
-use Rattle.walk.specs.Computed.{Computed}
+use Rattle.walk.specs.Emitting.{Writable, Counted, Written}
+use Rattle.fates.specs.Computed.{Computed}
 use Rattle.walk.proofs.Sound.{spanOf, Sound, entry-sound}
-use Rattle.walk.proofs.Yielded.{components-are, alone-lined}
+use Rattle.walk.proofs.Yielded.{components-are, writable}
 
 pub shut : (i : Input) (work components entries : List ℕ) (g : Gate) (why : Refusal) → g ≡ entryGate i (length work) → g ≡ Shut why → Allowed i work components entries (record { answer = Refused why; work = work; components = components; entries = entries })
 shut i work components entries g why e f = by-rows why (sym e ∙ f)
@@ -33,17 +32,17 @@ pub record Entered (i : Input) (work : List ℕ) (span : ℕ) : Type 0 where
   pub through : entryGate i (length work) ≡ Open
   pub spanned : span ≡ spanOf i
 
-pub record Ran (i : Input) (work : List ℕ) (span m : ℕ) (mid : List ℕ) : Type 0 where
+pub record Ran (i : Input) (work : List ℕ) (span : ℕ) (mid : List ℕ) : Type 0 where
   pub entered : Entered i work span
-  pub computed : Computed span (i .quads) (quadCount i) (i .params .quads) m work mid
+  pub computed : Computed span (i .quads) (quadCount i) (i .params) work mid
 
 -- the components that stand in the workspace
-abbrev pub outOf : Input → (span m : ℕ) → List ℕ → List (List Entry)
-outOf i span m mid = outTo mid span (quadCount i) m (i .params .corners) (quadCount i)
+abbrev pub outOf : Input → ℕ → List ℕ → List (List Entry)
+outOf i span mid = outTo mid span (quadCount i) (quadCount i)
 
-pub record Ended (i : Input) (work : List ℕ) (span m : ℕ) (mid : List ℕ) (k l : ℕ) : Type 0 where
-  pub ran : Ran i work span m mid
-  pub counted : Counted (outOf i span m mid) (quadCount i) m k l
+pub record Ended (i : Input) (work : List ℕ) (span : ℕ) (mid : List ℕ) (k l : ℕ) : Type 0 where
+  pub ran : Ran i work span mid
+  pub counted : Counted (outOf i span mid) (quadCount i) k l
 
 -- ---- what each stage may ask for
 
@@ -51,33 +50,31 @@ module _ {i : Input} {work : List ℕ} {span : ℕ} (e : Entered i work span) wh
   sound : Sound i (length work)
   sound = entry-sound i (length work) (e .through)
 
-  pub may-compute : Given span (i .quads) (quadCount i) × (4 * span + 26 * quadCount i ≤ length work)
+  pub may-compute : Given span (i .quads) (quadCount i) × (4 * span + 27 * quadCount i ≤ length work)
   may-compute = rw (e .spanned) (sound .given, sound .room)
 
-module _ {i : Input} {work : List ℕ} {span m : ℕ} {mid : List ℕ} (r : Ran i work span m mid) where
-  long : 4 * span + 26 * quadCount i ≤ length mid
+module _ {i : Input} {work : List ℕ} {span : ℕ} {mid : List ℕ} (r : Ran i work span mid) where
+  few-quads : quadCount i ≤ mostQuads
+  few-quads = sound (r .entered) .few
+
+  long : 4 * span + 27 * quadCount i ≤ length mid
   long = omega (arith, may-compute (r .entered) .1, r .computed .len)
 
-  pub lined : Lined mid (loneAt span) m
-  lined = alone-lined (r .computed .alone (i .params .corners)) (sound (r .entered) .few) (omega (arith, long))
+  pub may-emit : Writable mid span (quadCount i)
+  may-emit = writable (r .computed) few-quads long
 
-  pub may-count : (quadCount i ≤ mostQuads) × (4 * span + 14 * quadCount i ≤ length mid)
-  may-count = (sound (r .entered) .few, omega (arith, long))
-
-  answer : Answer i (outOf i span m mid)
-  answer =
-      let c = r .computed in
-      record { number = c .number; groups = c .groups; components = components-are (i .quads) (grouping i (c .number)) span m mid (c .alone (i .params .corners)) }
+  answer : Answer i (outOf i span mid)
+  answer = record { number = r .computed .number; groups = r .computed .groups; components = components-are (r .computed) few-quads long }
 
 -- ---- the outcomes
 
-module _ {i : Input} {work : List ℕ} {span m : ℕ} {mid : List ℕ} {k l : ℕ} (d : Ended i work span m mid k l) where
+module _ {i : Input} {work : List ℕ} {span : ℕ} {mid : List ℕ} {k l : ℕ} (d : Ended i work span mid k l) where
   abbrev out : List (List Entry)
-  out = outOf i span m mid
+  out = outOf i span mid
 
   -- the counts are words
   pub few : (k < 4294967296) × (l < 4294967296)
-  few = (omega (arith, d .counted .few-components, sound (d .ran .entered) .few), omega (arith, d .counted .few-entries, lined (d .ran) .few))
+  few = (omega (arith, d .counted .few-components, few-quads (d .ran)), omega (arith, d .counted .few-entries, few-quads (d .ran)))
 
   module _ (components entries : List ℕ) where
     pub may-write : k ≤ length components / 3 → l ≤ length entries / 3 → (3 * length out ≤ length components) × (3 * length (allEntries out) ≤ length entries)

@@ -31,7 +31,7 @@ module _ (i : Input) (number : ℕ → ℕ) (s : ℕ) where
   component-demanded es c = record { enough = c .enough; L = c .L; fits = c .labelling .fits; corners = enough-lone (i .quads) s (c .L) es (c .listed) (i .params .corners) (c .corners) }
 
   -- no three quads are a crowd
-  labelling : (L : ℕ → Pair) → Fits quads (i .quads) s L → Labelling quads (i .quads) (grouping i number) s L
+  pub labelling : (L : ℕ → Pair) → Fits quads (i .quads) s L → Labelling quads (i .quads) (grouping i number) s L
   labelling L f = record { clear = record { clear = λ p q r lp lq lr ep eq er pq qr pr c. c }; fits = f }
 
   pub dropped-lacks : Dropped quads (i .quads) (grouping i number) s → Lacks i number s

@@ -19,7 +19,7 @@ use Rattle.mesh.proofs.Differ.{corners-differ}
 use Rattle.cells.specs.Cells.{cell}
 use Rattle.walk.specs.Input.{Input, quadCount}
 use Rattle.walk.specs.Call.{gateOf, entryGate}
-use Rattle.walk.specs.Layout.{Given}
+use Rattle.laying.specs.Layout.{Given}
 
 -- ---- the order of rows
 
@@ -77,7 +77,7 @@ spanOf i = max (quadCount i) (i .corners)
 pub record Sound (i : Input) (words : ℕ) : Type 0 where
   pub given : Given (spanOf i) (i .quads) (quadCount i)
   pub few : quadCount i ≤ mostQuads
-  pub room : 4 * spanOf i + 26 * quadCount i ≤ words
+  pub room : 4 * spanOf i + 27 * quadCount i ≤ words
 
 pub entry-sound : (i : Input) (words : ℕ) → entryGate i words ≡ Open → Sound i words
 entry-sound i words e =

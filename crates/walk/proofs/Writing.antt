@@ -1,24 +1,22 @@
--- Components and entries written seed by seed: the words of one component more stand after those of the components before, and there is
+-- Components and entries written quad by quad: the words of one component more stand after those of the components before, and there is
 -- room for them where there is room for all. Assumes nothing.
-use mathlib.Core.Path.{_≡_, refl, sym, ap, ap₂, _∙_}
+use mathlib.Core.Path.{_≡_, refl, sym, ap, ap₂, _∙_, subst}
 use mathlib.Core.Bool.{Bool, true, false, cond}
 use mathlib.Core.List.{List, [], _∷_, _++_}
-use Prim.Native.Nat.{ℕ, _+_, _*_, _-_, _≤_, _<_}
+use Prim.Native.Nat.{ℕ, suc, _+_, _*_, _-_, _≤_, _<_}
 use native.Mathlib.Nat.{zero-add}
 use native.Mathlib.Numerals.{add-one}
 use native.Mathlib.Omega.{arith}
 use lib.ListN.{length, drop, length-append, length-drop}
 use Rattle.cells.specs.Listed.{Entry}
 use Rattle.cells.specs.Holes.{holes}
-use Rattle.walk.specs.Fates.{loneAt, cornerIn}
-use Rattle.walk.specs.Emitted.{xIn, yIn, entriesOf}
+use Rattle.fates.specs.declared.Run.{Run}
+use Rattle.fates.specs.Fates.{cornerIn}
+use Rattle.walk.specs.Emitted.{xIn, yIn, entriesTo, entriesOf}
 use Rattle.walk.specs.Call.{entryWords, allEntries, componentWords}
-use Rattle.walk.specs.Emitting.{Run, Single, runEntries, pasted, Written}
-use Rattle.walk.proofs.Shifted.{entryAt}
-use Rattle.walk.proofs.Yielded.{length-of}
-use Rattle.walk.proofs.Extent.{firstEntries, entries-more, first-length}
-use Rattle.walk.proofs.Runs.{run-count, run-entries}
-use Rattle.walk.proofs.Counting.{all-snoc, outBelow, Counting, keeps, joined, passed, one-more, grows}
+use Rattle.walk.specs.Emitting.{pasted, Written}
+use Rattle.walk.proofs.Shifted.{entryAt, entries-more, length-entries}
+use Rattle.walk.proofs.Counting.{all-snoc, run-length, outBelow, keeps, loneRun, Counting, joined, passed, one-more, grows}
 use Rattle.walk.proofs.Pasting.{front-more, pasted-more}
 
 -- ---- words
@@ -83,51 +81,48 @@ written-more out es c0 e0 c e h = record {
 -- ---- entry by entry
 
 -- a list with the first k entries of a run at a place, and one more after them
-pub entries-pasted : (w : List ℕ) (a count : ℕ) → Single w a count → (x y k place : ℕ) (before now : List ℕ) → k < count → 3 * place ≤ length before → now ≡ pasted (3 * place) (entryWords (firstEntries w a x y k)) before
-    → pasted (3 * (place + k)) ((xIn w a k - x) ∷ (yIn w a k - y) ∷ cornerIn w a k ∷ []) now ≡ pasted (3 * place) (entryWords (firstEntries w a x y (k + 1))) before
+pub entries-pasted : (w : List ℕ) (a x y k place : ℕ) (before now : List ℕ) → 3 * place ≤ length before → now ≡ pasted (3 * place) (entryWords (entriesTo w a x y k)) before
+    → pasted (3 * (place + k)) ((xIn w a k - x) ∷ (yIn w a k - y) ∷ cornerIn w a k ∷ []) now ≡ pasted (3 * place) (entryWords (entriesTo w a x y (k + 1))) before
 unfolding entryWords
-entries-pasted w a count o x y k place before now h room is =
-    let es = firstEntries w a x y k in
+entries-pasted w a x y k place before now room is =
+    let es = entriesTo w a x y k in
     let e = entryAt w a x y k in
     let words = e .u ∷ e .v ∷ e .corner ∷ [] in
     ap (pasted (3 * (place + k)) words) is
-    ∙ pasted-more (3 * place) (3 * (place + k)) (entryWords es) words before room (omega (arith, length-entry-words es, first-length w a count o x y k (omega arith)))
-    ∙ ap (λ (l : List ℕ). pasted (3 * place) l before) (sym (entry-words-append es (e ∷ [])) ∙ ap entryWords (sym (entries-more w a count o x y k h) ∙ ap (firstEntries w a x y) (sym (add-one k))))
+    ∙ pasted-more (3 * place) (3 * (place + k)) (entryWords es) words before room (omega (arith, length-entry-words es, length-entries w a x y k))
+    ∙ ap (λ (l : List ℕ). pasted (3 * place) l before) (sym (entry-words-append es (e ∷ [])) ∙ ap entryWords (sym (entries-more w a x y k) ∙ ap (entriesTo w a x y) (sym (add-one k))))
 
--- ---- seed by seed
+-- ---- quad by quad
 
-module _ (w : List ℕ) (span n m least s from to components entries : ℕ) (kept : Bool) (c0 e0 c e : List ℕ) (counts : Counting w span n m least s from components entries) (r : Run w (loneAt span) m s from to) (is : kept ≡ keeps w span n m least s (to - from)) (h : Written (outBelow w span n m least s) c0 e0 c e) where
-  abbrev es : List Entry
-  es = runEntries w (loneAt span + 2 * from) (to - from)
+module _ (w : List ℕ) (span n s components entries : ℕ) (kept : Bool) (c0 e0 c e : List ℕ) (counts : Counting w span n s components entries) (is : kept ≡ keeps w span n s) (h : Written (outBelow w span n s) c0 e0 c e) where
+  abbrev run : Run
+  run = loneRun w span n s
 
-  -- the lists after the seed
+  -- the lists after the quad
   abbrev componentsNow : List ℕ
-  componentsNow = cond kept (pasted (3 * components) (entries ∷ (to - from) ∷ holes es ∷ []) c) c
+  componentsNow = cond kept (pasted (3 * components) (entries ∷ run .count ∷ holes (entriesOf w run) ∷ []) c) c
 
   abbrev entriesNow : List ℕ
-  entriesNow = cond kept (pasted (3 * entries) (entryWords es) e) e
+  entriesNow = cond kept (pasted (3 * entries) (entryWords (entriesOf w run)) e) e
 
-  pub written-next : Written (outBelow w span n m least (s + 1)) c0 e0 componentsNow entriesNow
-  written-next = go kept refl
+  pub written-next : Written (outBelow w span n (s + 1)) c0 e0 componentsNow entriesNow
+  written-next = rw (add-one s) (go kept refl)
     where
       out : List (List Entry)
-      out = outBelow w span n m least s
+      out = outBelow w span n s
 
-      own : List Entry
-      own = entriesOf w (loneAt span) m s
+      With : ℕ → Type 0
+      With count = Written (out ++ (entriesOf w run ∷ [])) c0 e0 (pasted (3 * length out) (length (allEntries out) ∷ count ∷ holes (entriesOf w run) ∷ []) c) (pasted (3 * length (allEntries out)) (entryWords (entriesOf w run)) e)
 
-      count-is : length own ≡ to - from
-      count-is = length-of w (loneAt span) m s ∙ run-count r
-
-      go : (b : Bool) → kept ≡ b → Written (outBelow w span n m least (s + 1)) c0 e0 componentsNow entriesNow
-      go true t = rw (t, joined w span n m least s from to r (sym is ∙ t), counts .components-are, counts .entries-are, ← run-entries r, ← count-is) (written-more out own c0 e0 c e h)
-      go false t = rw (t, passed w span n m least s from to r (sym is ∙ t)) h
+      go : (b : Bool) → kept ≡ b → Written (outBelow w span n (suc s)) c0 e0 componentsNow entriesNow
+      go true t = rw (t, joined w span n s (sym is ∙ t), counts .components-are, counts .entries-are) (subst With (run-length w run) (written-more out (entriesOf w run) c0 e0 c e h))
+      go false t = rw (t, passed w span n s (sym is ∙ t)) h
 
   -- there is room for it
-  pub room-next : s < n → 3 * length (outBelow w span n m least n) ≤ length c0 → 3 * length (allEntries (outBelow w span n m least n)) ≤ length e0
-      → kept ≡ true → (3 * components + 2 < length c) × (3 * (entries + (to - from)) ≤ length e)
+  pub room-next : s < n → 3 * length (outBelow w span n n) ≤ length c0 → 3 * length (allEntries (outBelow w span n n)) ≤ length e0
+      → kept ≡ true → (3 * components + 2 < length c) × (3 * (entries + run .count) ≤ length e)
   room-next l p q t =
-      let o = one-more w span n m least s from to r (sym is ∙ t) in
-      let g = grows w span n m least (s + 1) n (omega arith) in
+      let o = one-more w span n s (sym is ∙ t) in
+      let g = grows w span n (s + 1) n (omega arith) in
       let k = written-length h (omega (arith, g .0, o .0)) (omega (arith, g .1, o .1)) in
       (omega (arith, g .0, o .0, k .0, counts .components-are), omega (arith, g .1, o .1, k .1, counts .entries-are))

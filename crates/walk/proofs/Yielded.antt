@@ -1,136 +1,154 @@
--- The components that the lone records say are those of the definitions: a laid group's records list its lone corners, so it yields its
--- entries or has too few, and a group with another fate is dropped. Assumes nothing.
-use mathlib.Core.Path.{_≡_, refl, sym, ap, ap₂, _∙_, subst}
-use mathlib.Core.Bool.{Bool, true, false, _&&_}
-use mathlib.Core.List.{List, [], _∷_, _++_, append-nil}
+-- The components that the workspace says are those of the definitions: the run of a labelled group lists its lone corners, so it yields its
+-- entries where it is kept and has too few where it is not, and a group of another fate is dropped. Assumes nothing.
+use mathlib.Core.Path.{_≡_, refl, sym, ap, _∙_, subst}
+use mathlib.Core.Bool.{true, false≢true}
+use mathlib.Core.List.{List}
 use Prim.Native.Nat.{ℕ, zero, suc, _+_, _*_, _-_, _≤_, _<_}
-use native.Mathlib.Decide.{decLe}
 use native.Mathlib.Omega.{arith}
-use borrow.Author.Tests.{eq-eqb, ne-eqb, le-leb, lt-leb}
-use lib.Dec.{eqb, leb}
 use lib.IntN.{pos}
 use lib.ListN.{length}
-use Rattle.words.specs.Sorting.{equal}
 use Rattle.mesh.specs.Lists.{mostQuads}
-use Rattle.cells.specs.Kind.{Pair, _⊕_, Lone}
+use Rattle.cells.specs.Kind.{Pair, _⊕_, Fits, Lone}
+use Rattle.cells.specs.Counted.{Exactly}
 use Rattle.cells.specs.Quads.{quads}
 use Rattle.cells.specs.Listed.{Entry, Some, Listed, Grouping, Components}
 use Rattle.cells.specs.Listed.Dropped.{few-cells, no-labelling, few-corners}
 use Rattle.cells.specs.Listed.Components.{start, within, dropped, kept}
 use Rattle.cells.proofs.Whole.{pair}
-use Rattle.walk.specs.Layout.{label}
-use Rattle.walk.specs.Fates.{loneAt, fateOf, cornerIn, seedIn, keyIn, Holding, Laid, Fate, loneFrom, Alone}
-use Rattle.walk.specs.Emitted.{xIn, yIn, leastOf, entriesOf, outTo}
-use Rattle.walk.specs.Emitting.{Lined}
+use Rattle.cells.proofs.Counted.{one-count, exactly-same}
+use Rattle.cells.proofs.Squares.{quad-laws}
+use Rattle.cells.proofs.Unique.{one-lone}
+use Rattle.laying.specs.Layout.{label}
+use Rattle.fates.specs.declared.LabelParams.{LabelParams}
+use Rattle.fates.specs.declared.Run.{Run}
+use Rattle.fates.specs.declared.Fate.{Fate}
+use Rattle.fates.specs.declared.Fate.the-variants.{NotLowest, TooFewQuads, NoLabelling, TooFewLone, Kept}
+use Rattle.fates.specs.Fates.{loneAt, cornerIn, Laid, loneFrom}
+use Rattle.fates.specs.Judged.{Labels, Becomes, fateAt, isLabelled, isKept}
+use Rattle.fates.specs.Index.{runsAt}
+use Rattle.fates.specs.Computed.{groupingBy, Computed}
+use Rattle.walk.specs.Emitted.{xIn, yIn, leastX, leastY, entriesOf, outTo}
+use Rattle.walk.specs.Emitting.{Ascending, Writable}
 use Rattle.walk.proofs.Above.{over}
-use Rattle.walk.proofs.Shifted.{entryAt, Taken, least-le, least-met, length-entries, entry-of, entry-in, Rises, entries-sorted}
+use Rattle.walk.proofs.Shifted.{entryAt, Taken, least-le, least-met, entry-of, entry-in, entries-sorted}
+use Rattle.walk.proofs.Runs.{Held, exactly, held, ascending}
+use Rattle.walk.proofs.Counting.{run-length, joined, passed}
 
--- ---- the lone corners of one seed
+-- ---- the lone corners of one group
 
-module _ (cells : List ℕ) (s : ℕ) (L : ℕ → Pair) (w : List ℕ) (a m : ℕ) (h : Holding (λ c. Lone quads cells s L c) L s w a m) where
+module _ (cells : List ℕ) (s : ℕ) (L : ℕ → Pair) (w : List ℕ) (run : Run) (h : Held (λ c. Lone quads cells s L c) L w run) where
+  abbrev a : ℕ
+  a = run .at
+
+  abbrev m : ℕ
+  m = run .count
+
   abbrev x0 : ℕ
-  x0 = leastOf w a (xIn w a) s m
+  x0 = leastX w run
 
   abbrev y0 : ℕ
-  y0 = leastOf w a (yIn w a) s m
+  y0 = leastY w run
+
+  low : (k : ℕ) → k < m → (x0 ≤ xIn w a k) × (y0 ≤ yIn w a k)
+  low k l = (least-le (xIn w a) m k l, least-le (yIn w a) m k l)
 
   -- a key's two parts are the words of its corner's pair
-  words-are : (k : ℕ) → k < m → seedIn w a k ≡ s → (L (cornerIn w a k) ≡ (label (xIn w a k), label (yIn w a k))) × (xIn w a k < 32768) × (yIn w a k < 32768)
-  words-are k l e =
-      let q = h .keyed k l e in
+  words-are : (k : ℕ) → k < m → (L (cornerIn w a k) ≡ (label (xIn w a k), label (yIn w a k))) × (xIn w a k < 32768) × (yIn w a k < 32768)
+  words-are k l =
+      let q = h .keyed k l in
       let f : xIn w a k ≡ q .x = omega (arith, q .is, q .y-small) in
       let g : yIn w a k ≡ q .y = omega (arith, q .is, q .y-small) in
       (rw (f, g) (q .pair), omega (arith, q .x-small), omega (arith, q .y-small))
 
-  shifted : (k : ℕ) → k < m → seedIn w a k ≡ s → L (cornerIn w a k) ≡ (label x0, label y0) ⊕ (pos (xIn w a k - x0), pos (yIn w a k - y0))
-  shifted k l e = words-are k l e .0 ∙ pair (over (xIn w a k) x0 (least-le w a (xIn w a) s m k l e)) (over (yIn w a k) y0 (least-le w a (yIn w a) s m k l e))
+  shifted : (k : ℕ) → k < m → L (cornerIn w a k) ≡ (label x0, label y0) ⊕ (pos (xIn w a k - x0), pos (yIn w a k - y0))
+  shifted k l = words-are k l .0 ∙ pair (over (xIn w a k) x0 (low k l .0)) (over (yIn w a k) y0 (low k l .1))
 
-  listed : Rises w a m → Listed quads cells s L (entriesOf w a m s)
-  unfolding entriesOf
+  listed : Ascending w run → Listed quads cells s L (entriesOf w run)
   listed r = record {
     least = (label x0, label y0);
-    lone = λ e i. let t = entry-of w a s x0 y0 m e i in subst (λ (f : Entry). Lone quads cells s L (f .corner)) (sym (t .is)) (h .sound (t .at) (t .small) (t .of));
-    pairs = λ e i. let t = entry-of w a s x0 y0 m e i in subst (λ (f : Entry). L (f .corner) ≡ (label x0, label y0) ⊕ (pos (f .u), pos (f .v))) (sym (t .is)) (shifted (t .at) (t .small) (t .of));
-    every = λ c l. record { entry = entryAt w a x0 y0 (h .place c l); among = entry-in w a s x0 y0 m (h .place c l) (h .placed c l) (h .of c l); is = h .is c l };
-    zero-u = λ e i. let t = entry-of w a s x0 y0 m e i in taken-u (least-met w a (xIn w a) s m (omega (arith, least-le w a (xIn w a) s m (t .at) (t .small) (t .of), words-are (t .at) (t .small) (t .of) .1)));
-    zero-v = λ e i. let t = entry-of w a s x0 y0 m e i in taken-v (least-met w a (yIn w a) s m (omega (arith, least-le w a (yIn w a) s m (t .at) (t .small) (t .of), words-are (t .at) (t .small) (t .of) .2)));
-    ordered = entries-sorted w a s x0 y0 m r (λ k l e. (least-le w a (xIn w a) s m k l e, least-le w a (yIn w a) s m k l e));
+    lone = λ e i. let t = entry-of w a x0 y0 m e i in subst (λ (f : Entry). Lone quads cells s L (f .corner)) (sym (t .is)) (h .sound (t .at) (t .small));
+    pairs = λ e i. let t = entry-of w a x0 y0 m e i in subst (λ (f : Entry). L (f .corner) ≡ (label x0, label y0) ⊕ (pos (f .u), pos (f .v))) (sym (t .is)) (shifted (t .at) (t .small));
+    every = λ c l. let p = h .every c l in record { entry = entryAt w a x0 y0 (p .at); among = entry-in w a x0 y0 m (p .at) (p .small); is = p .is };
+    zero-u = λ e i. let t = entry-of w a x0 y0 m e i in taken-u (least-met (xIn w a) m (omega (arith, low (t .at) (t .small) .0, words-are (t .at) (t .small) .1)));
+    zero-v = λ e i. let t = entry-of w a x0 y0 m e i in taken-v (least-met (yIn w a) m (omega (arith, low (t .at) (t .small) .1, words-are (t .at) (t .small) .2)));
+    ordered = entries-sorted w a x0 y0 m (r .rises) low;
   }
     where
-      taken-u : Taken w a s m (λ k. xIn w a k ≡ x0) → Some (entriesOf w a m s) (λ f. f .u ≡ 0)
-      taken-u t = record { entry = entryAt w a x0 y0 (t .at); among = entry-in w a s x0 y0 m (t .at) (t .small) (t .of); is = omega (arith, t .is) }
+      taken-u : Taken m (λ k. xIn w a k ≡ x0) → Some (entriesOf w run) (λ f. f .u ≡ 0)
+      taken-u t = record { entry = entryAt w a x0 y0 (t .at); among = entry-in w a x0 y0 m (t .at) (t .small); is = omega (arith, t .is) }
 
-      taken-v : Taken w a s m (λ k. yIn w a k ≡ y0) → Some (entriesOf w a m s) (λ f. f .v ≡ 0)
-      taken-v t = record { entry = entryAt w a x0 y0 (t .at); among = entry-in w a s x0 y0 m (t .at) (t .small) (t .of); is = omega (arith, t .is) }
+      taken-v : Taken m (λ k. yIn w a k ≡ y0) → Some (entriesOf w run) (λ f. f .v ≡ 0)
+      taken-v t = record { entry = entryAt w a x0 y0 (t .at); among = entry-in w a x0 y0 m (t .at) (t .small); is = omega (arith, t .is) }
 
--- ---- the components, seed by seed
+-- as many corners are lone under one assignment that fits as under another
+one-lone-count : (cells : List ℕ) (s : ℕ) (L M : ℕ → Pair) → Fits quads cells s L → Fits quads cells s M → {j k : ℕ} → Exactly (Lone quads cells s L) j → Exactly (Lone quads cells s M) k → j ≡ k
+one-lone-count cells s L M f g x y =
+    one-count (Lone quads cells s M) (exactly-same (Lone quads cells s L) (Lone quads cells s M) (λ c k. one-lone quads quad-laws cells f g k) (λ c k. one-lone quads quad-laws cells g f k) x) y
 
-pub length-of : (w : List ℕ) (a m s : ℕ) → length (entriesOf w a m s) ≡ equal (seedIn w a) m s
-unfolding entriesOf
-length-of w a m s = length-entries w a s (leastOf w a (xIn w a) s m) (leastOf w a (yIn w a) s m) m
+-- ---- the components, quad by quad
 
--- seed s yields a component: it is laid, and has enough of the lone records
-abbrev pub yields : List ℕ → (span n m least s : ℕ) → Bool
-yields w span n m least s = eqb (fateOf span n w s) 3 && leb least (equal (seedIn w (loneAt span)) m s)
+kept-labelled : (f : Fate) → isKept f ≡ true → isLabelled f ≡ true
+unfolding isKept isLabelled
+kept-labelled NotLowest e = absurd (false≢true e)
+kept-labelled TooFewQuads e = absurd (false≢true e)
+kept-labelled NoLabelling e = absurd (false≢true e)
+kept-labelled (TooFewLone c) e = refl
+kept-labelled (Kept c) e = refl
 
-pub out-kept : (w : List ℕ) (span n m least s : ℕ) → yields w span n m least s ≡ true → outTo w span n m least (suc s) ≡ outTo w span n m least s ++ (entriesOf w (loneAt span) m s ∷ [])
-unfolding outTo
-out-kept w span n m least s e = rw e
+module _ {span n : ℕ} {cells : List ℕ} {params : LabelParams} {xs w : List ℕ} (o : Computed span cells n params xs w) (few : n ≤ mostQuads) (room : 4 * span + 27 * n ≤ length w) where
+  abbrev g : Grouping
+  g = groupingBy n (o .number) params
 
-pub out-passed : (w : List ℕ) (span n m least s : ℕ) → yields w span n m least s ≡ false → outTo w span n m least (suc s) ≡ outTo w span n m least s
-unfolding outTo
-out-passed w span n m least s e = rw e (append-nil (outTo w span n m least s))
-
-module _ (cells : List ℕ) (g : Grouping) (span m : ℕ) (w : List ℕ) (alone : Alone cells g span m w) where
-  abbrev out : ℕ → List (List Entry)
-  out s = outTo w span (g .n) m (g .least-corners) s
+  abbrev run : ℕ → Run
+  run s = runsAt span n w s .lone
 
   abbrev To : ℕ → Type 0
-  To s = Components quads cells g s (out s)
+  To s = Components quads cells g s (outTo w span n s)
 
-  unlaid : (s f : ℕ) → fateOf span (g .n) w s ≡ f → f < 3 → out (suc s) ≡ out s
-  unlaid s f e h = out-passed w span (g .n) m (g .least-corners) s (ap (λ (b : Bool). b && leb (g .least-corners) (equal (seedIn w (loneAt span)) m s)) (ne-eqb (fateOf span (g .n) w s) 3 (omega arith)))
+  -- a group with a labelling
+  module _ (s : ℕ) (h : s < n) (e : isLabelled (fateAt span n w s) ≡ true) where
+    laid : Laid cells g (loneFrom cells g s) s w (loneAt span) (o .m)
+    laid = o .lones s h e
 
-  -- a laid group yields its entries, where they are enough
-  laid-step : (s : ℕ) → To s → fateOf span (g .n) w s ≡ 3 → Laid cells g (loneFrom cells g s) s w (loneAt span) m → Dec (g .least-corners ≤ equal (seedIn w (loneAt span)) m s) → To (suc s)
-  laid-step s c e l (yes h) =
-      let is = length-of w (loneAt span) m s in
-      rw (out-kept w span (g .n) m (g .least-corners) s (ap₂ _&&_ (eq-eqb (fateOf span (g .n) w s) 3 e) (le-leb (g .least-corners) (equal (seedIn w (loneAt span)) m s) h)))
-      (kept c (l .lowest) (record { enough = l .enough; L = l .L; labelling = l .labelling; listed = listed cells s (l .L) w (loneAt span) m (l .holding) (alone .rises); corners = omega arith }))
-  laid-step s c e l (no h) =
-      let is = length-of w (loneAt span) m s in
-      rw (out-passed w span (g .n) m (g .least-corners) s (ap₂ _&&_ (eq-eqb (fateOf span (g .n) w s) 3 e) (lt-leb (g .least-corners) (equal (seedIn w (loneAt span)) m s) (omega (arith, h)))))
-      (dropped c (l .lowest) (few-corners (l .enough) (l .L) (l .labelling) (entriesOf w (loneAt span) m s) (listed cells s (l .L) w (loneAt span) m (l .holding) (alone .rises)) (omega (arith, h))))
+    holds : Held (λ c. Lone quads cells s (laid .L) c) (laid .L) w (run s)
+    holds = held (o .indexed s h .lone) (laid .holding)
 
-  step : (s f : ℕ) → To s → fateOf span (g .n) w s ≡ f → Fate cells g (loneFrom cells g s) s w (loneAt span) m f → To (suc s)
-  step s f c e (Fate.within n) = rw (unlaid s 0 e (omega arith)) (within c n)
-  step s f c e (Fate.few n h) = rw (unlaid s 1 e (omega arith)) (dropped c n (few-cells h))
-  step s f c e (Fate.none n h r) = rw (unlaid s 2 e (omega arith)) (dropped c n (no-labelling h r))
-  step s f c e (Fate.laid l) = laid-step s c e l (decLe (g .least-corners) (equal (seedIn w (loneAt span)) m s))
+    rising : Ascending w (run s)
+    rising = ascending (o .indexed s h .lone) (o .rises) holds (omega (arith, o .few)) (omega (arith, o .few))
 
-  below : (s : ℕ) → s ≤ g .n → To s
+    own-listed : Listed quads cells s (laid .L) (entriesOf w (run s))
+    own-listed = listed cells s (laid .L) w (run s) holds rising
+
+    -- has as many entries as lone corners
+    own-length : {lone claimed : ℕ} → Labels cells g s lone claimed → length (entriesOf w (run s)) ≡ lone
+    own-length l = run-length w (run s) ∙ one-lone-count cells s (laid .L) (l .L) (laid .labelling .fits) (l .labelling .fits) (exactly holds) (l .lones)
+
+  step : (s : ℕ) (f : Fate) → s < n → fateAt span n w s ≡ f → Becomes cells g s f → To s → To (suc s)
+  unfolding isKept isLabelled
+  step s f h e (Becomes.not-lowest l) c = rw (passed w span n s (ap isKept e)) (within c l)
+  step s f h e (Becomes.few-quads l b) c = rw (passed w span n s (ap isKept e)) (dropped c l (few-cells b))
+  step s f h e (Becomes.no-labelling l b r) c = rw (passed w span n s (ap isKept e)) (dropped c l (no-labelling b r))
+  step s f h e (Becomes.few-lone l b) c =
+      let t = ap isLabelled e in
+      rw (passed w span n s (ap isKept e)) (dropped c (l .lowest) (few-corners (l .enough) (laid s h t .L) (laid s h t .labelling) (entriesOf w (run s)) (own-listed s h t) (omega (arith, own-length s h t l))))
+  step s f h e (Becomes.kept l b) c =
+      let t = ap isLabelled e in
+      rw (joined w span n s (ap isKept e)) (kept c (l .lowest) (record { enough = l .enough; L = laid s h t .L; labelling = laid s h t .labelling; listed = own-listed s h t; corners = omega (arith, own-length s h t l) }))
+
+  below : (s : ℕ) → s ≤ n → To s
   unfolding outTo
   below zero h = start
-  below (suc s) h = step s (fateOf span (g .n) w s) (below s (omega arith)) refl (alone .fates s (omega arith))
+  below (suc s) h = step s (fateAt span n w s) (omega arith) refl (o .becomes s (omega arith)) (below s (omega arith))
 
-  pub components-are : Components quads cells g (g .n) (outTo w span (g .n) m (g .least-corners) (g .n))
-  components-are = below (g .n) (omega arith)
+  pub components-are : Components quads cells g n (outTo w span n n)
+  components-are = below n (omega arith)
 
--- ---- what emission asks of the records
+  -- ---- what emission asks of the workspace
 
--- a record's key is that of two words, since its group is laid
-key-small : (cells : List ℕ) (g : Grouping) (w : List ℕ) (a m s f k : ℕ) → f ≡ 3 → Fate cells g (loneFrom cells g s) s w a m f → k < m → seedIn w a k ≡ s → keyIn w a k < 1073741824
-key-small cells g w a m s f k e (Fate.within n) h o = absurd (omega arith)
-key-small cells g w a m s f k e (Fate.few n l) h o = absurd (omega arith)
-key-small cells g w a m s f k e (Fate.none n l r) h o = absurd (omega arith)
-key-small cells g w a m s f k e (Fate.laid l) h o =
-    let q = l .holding .keyed k h o in
-    omega (arith, q .is, q .x-small, q .y-small)
-
-pub alone-lined : {cells : List ℕ} {g : Grouping} {span m : ℕ} {w : List ℕ} → Alone cells g span m w → g .n ≤ mostQuads → loneAt span + 8 * g .n ≤ length w → Lined w (loneAt span) m
-alone-lined {cells} {g} {span} {m} {w} o h l = record {
-  room = omega (arith, o .few);
-  few = omega (arith, o .few);
-  keys = λ k b. let s = seedIn w (loneAt span) k in key-small cells g w (loneAt span) m s (fateOf span (g .n) w s) k (o .own k b .1) (o .fates s (o .own k b .0)) b refl;
-  rises = o .rises;
-}
+  pub writable : Writable w span n
+  writable = record {
+    room = room;
+    quads = few;
+    few = λ s h. let r = o .indexed s h .lone in omega (arith, r .count, r .stretch .most, o .few);
+    kept = λ s h e. rising s h (kept-labelled (fateAt span n w s) e);
+  }

@@ -6,7 +6,8 @@ use Rattle.cells.specs.Cells.{everyone, Neighbours}
 use Rattle.cells.specs.Groups.{Groups}
 use Rattle.cells.specs.Listed.{Entry, Grouping, Components}
 use Rattle.cells.specs.Quads.{quads}
-use Rattle.walk.specs.declared.LabelParams.{LabelParams}
+use Rattle.fates.specs.declared.LabelParams.{LabelParams}
+use Rattle.fates.specs.Computed.{groupingBy}
 
 pub record Input : Type 0 where
   pub quads : List ℕ
@@ -21,7 +22,7 @@ abbrev pub GroupsOf : Input → (ℕ → ℕ) → Type 0
 GroupsOf i number = Groups (Neighbours 4 (i .quads) everyone) (quadCount i) number
 
 abbrev pub grouping : Input → (ℕ → ℕ) → Grouping
-grouping i number = record { n = quadCount i; number = number; least-cells = i .params .quads; least-corners = i .params .corners }
+grouping i number = groupingBy (quadCount i) number (i .params)
 
 -- out is the components, each by its entries: of the groups in order of their lowest quad, those that yield one
 pub record Answer (i : Input) (out : List (List Entry)) : Type 0 where

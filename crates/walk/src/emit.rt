@@ -1,19 +1,25 @@
-// The lone records as components and entries: how many there are, and their words at the fronts of two lists.
+// The kept groups as components and entries: how many there are, and their words at the fronts of two lists.
+// A caller may rely on the order of the quads: a component for each that is kept, with an entry for each of its lone records.
 ghost use mathlib.Core.Path.{_≡_};
-ghost use mathlib.Core.Bool.{true, cond, _&&_};
+ghost use mathlib.Core.Bool.{true, cond};
 ghost use mathlib.Core.List.{[], _∷_};
 ghost use Prim.Native.Nat.{_+_, _*_, _-_, _≤_, _<_, min, max};
-ghost use lib.Dec.{eqb, leb};
 ghost use lib.ListN.{length};
-ghost use Rattle.mesh.specs.Lists.{mostQuads};
 ghost use Rattle.cells.specs.Holes.{holes, height};
-ghost use Rattle.walk.specs.Layout.{centre};
-ghost use Rattle.walk.specs.Fates.{fateOf, loneAt, keyIn, cornerIn, seedIn};
-ghost use Rattle.walk.specs.Emitted.{xIn, yIn, outTo};
+ghost use Rattle.laying.specs.Layout.{centre};
+ghost use Rattle.fates.specs.Fates.{keyIn, cornerIn};
+ghost use Rattle.fates.specs.Judged.{isKept};
+ghost use Rattle.walk.specs.Emitted.{xIn, yIn, leastX, leastY, entriesOf, outTo};
 ghost use Rattle.walk.specs.Call.{entryWords, allEntries};
-ghost use Rattle.walk.specs.Emitting.{Lined, Cursor, Run, Single, runX, runY, runEntries, pasted, Counted, Written};
-use crate::labels::from_word;
-use words::inner::wide;
+ghost use Rattle.walk.specs.Emitting.{Ascending, Writable, pasted, Counted, Written};
+use fates::Fate;
+use fates::Run;
+use fates::Runs;
+use fates::inner::fate_at;
+use fates::inner::runs_at;
+use laying::inner::labels::from_word;
+use laying::inner::layout::KEYS;
+use laying::inner::layout::SEEDS;
 
 // How many components, and how many entries in them.
 pub(crate) struct Totals {
@@ -21,11 +27,10 @@ pub(crate) struct Totals {
     pub entries: usize,
 }
 
-fn seed_of(work: &[u32], at: usize, k: usize) -> usize
-    requires { ⌜ at + 2 * k + 1 < length (now work) ⌝ }
-    ensures { λ r. ⌜ r ≡ seedIn (now (work .entry)) at k ⌝ }
-{
-    wide(work[at + 2 * k + 1] % 4096)
+// The least words of a run.
+struct Least {
+    pub x: u32,
+    pub y: u32,
 }
 
 fn key_of(work: &[u32], at: usize, k: usize) -> u32
@@ -39,41 +44,27 @@ fn x_of(work: &[u32], at: usize, k: usize) -> u32
     requires { ⌜ at + 2 * k < length (now work) ⌝ }
     ensures { λ r. ⌜ r ≡ xIn (now (work .entry)) at k ⌝ }
 {
-    key_of(work, at, k) / 32768
+    key_of(work, at, k) / KEYS
 }
 
 fn y_of(work: &[u32], at: usize, k: usize) -> u32
     requires { ⌜ at + 2 * k < length (now work) ⌝ }
     ensures { λ r. ⌜ r ≡ yIn (now (work .entry)) at k ⌝ }
 {
-    key_of(work, at, k) % 32768
+    key_of(work, at, k) % KEYS
 }
 
-// Where the records of seed s end, which begin at `from`.
-fn run_end(work: &[u32], at: usize, m: usize, s: usize, from: usize) -> usize
-    requires { ⌜ Lined (now work) at m ⌝ }
-    requires { ⌜ Cursor (now work) at m s from ⌝ }
-    ensures { λ r. ⌜ Run (now (work .entry)) at m s from r ⌝ }
+// Whether a group of this fate is written.
+fn is_kept(fate: Fate) -> bool
+    ensures { λ r. ⌜ r ≡ isKept fate ⌝ }
 {
-    let mut i = from;
-    while i < m {
-        if seed_of(work, at, i) != s {
-            return i;
-        }
-        i += 1;
+    match fate {
+        Fate::NotLowest => false,
+        Fate::TooFewQuads => false,
+        Fate::NoLabelling => false,
+        Fate::TooFewLone(_) => false,
+        Fate::Kept(_) => true,
     }
-    i
-}
-
-// Seed s, with `count` lone records, yields a component.
-fn is_kept(work: &[u32], span: usize, n: usize, s: usize, least: usize, count: usize) -> bool
-    requires { ⌜ (4 * span + 14 * n ≤ length (now work)) × (s < n) ⌝ }
-    ensures { λ r. ⌜ r ≡ (eqb (fateOf span n (now (work .entry)) s) 3 && leb least count) ⌝ }
-{
-    if work[4 * span + 13 * n + s] != 3 {
-        return false;
-    }
-    least <= count
 }
 
 // One component of `count` entries more, if it is kept.
@@ -90,23 +81,20 @@ fn counted(totals: Totals, kept: bool, count: usize) -> Totals
     totals
 }
 
-// How many components and entries the lone records make.
-pub(crate) fn count_out(work: &[u32], span: usize, n: usize, m: usize, least: usize) -> Totals
-    requires { ⌜ Lined (now work) (loneAt span) m ⌝ }
-    requires { ⌜ (n ≤ mostQuads) × (4 * span + 14 * n ≤ length (now work)) ⌝ }
-    ensures { λ r. ⌜ Counted (outTo (now (work .entry)) span n m least n) n m (r .components) (r .entries) ⌝ }
+// How many components and entries the kept groups make.
+pub(crate) fn count_out(work: &[u32], span: usize, n: usize) -> Totals
+    requires { ⌜ Writable (now work) span n ⌝ }
+    ensures { λ r. ⌜ Counted (outTo (now (work .entry)) span n n) n (r .components) (r .entries) ⌝ }
 {
     let mut totals = Totals {
         components: 0,
         entries: 0,
     };
-    let mut from = 0;
     let mut s = 0;
     while s < n {
-        let to = run_end(work, 4 * span, m, s, from);
-        let kept = is_kept(work, span, n, s, least, to - from);
-        totals = counted(totals, kept, to - from);
-        from = to;
+        let kept = is_kept(fate_at(work, span, n, s));
+        let runs = runs_at(work, span, n, s);
+        totals = counted(totals, kept, runs.lone.count);
         s += 1;
     }
     totals
@@ -139,56 +127,66 @@ fn greater(a: u32, b: u32) -> u32
 }
 
 // The least x of a run is that of its first record; where there is none, a number above every word.
-fn least_x(work: &[u32], at: usize, count: usize) -> u32
-    requires { ⌜ Single (now work) at count ⌝ }
-    ensures { λ r. ⌜ r ≡ runX (now (work .entry)) at count ⌝ }
+fn least_x(work: &[u32], run: Run) -> u32
+    requires { ⌜ Ascending (now work) run ⌝ }
+    ensures { λ r. ⌜ r ≡ leastX (now (work .entry)) run ⌝ }
 {
-    if count == 0 {
-        return 32768;
+    if run.count == 0 {
+        return KEYS;
     }
-    x_of(work, at, 0)
+    x_of(work, run.at, 0)
 }
 
-fn least_y(work: &[u32], at: usize, count: usize) -> u32
-    requires { ⌜ Single (now work) at count ⌝ }
-    ensures { λ r. ⌜ r ≡ runY (now (work .entry)) at count ⌝ }
+fn least_y(work: &[u32], run: Run) -> u32
+    requires { ⌜ Ascending (now work) run ⌝ }
+    ensures { λ r. ⌜ r ≡ leastY (now (work .entry)) run ⌝ }
 {
-    let mut y = 32768u32;
+    let mut y = KEYS;
     let mut k = 0;
-    while k < count {
-        y = lesser(y_of(work, at, k), y);
+    while k < run.count {
+        y = lesser(y_of(work, run.at, k), y);
         k += 1;
     }
     y
 }
 
+fn least_of(work: &[u32], run: Run) -> Least
+    requires { ⌜ Ascending (now work) run ⌝ }
+    ensures { λ r. ⌜ (r .x ≡ leastX (now (work .entry)) run) × (r .y ≡ leastY (now (work .entry)) run) ⌝ }
+{
+    Least {
+        x: least_x(work, run),
+        y: least_y(work, run),
+    }
+}
+
 // From the least y to the greatest.
-fn height_of(work: &[u32], at: usize, count: usize, y: u32) -> u32
-    requires { ⌜ Single (now work) at count ⌝ }
-    requires { ⌜ y ≡ runY (now work) at count ⌝ }
-    ensures { λ r. ⌜ (r ≡ height (runEntries (now (work .entry)) at count)) × (r ≤ 32768) ⌝ }
+fn height_of(work: &[u32], run: Run, y: u32) -> u32
+    requires { ⌜ Ascending (now work) run ⌝ }
+    requires { ⌜ y ≡ leastY (now work) run ⌝ }
+    ensures { λ r. ⌜ (r ≡ height (entriesOf (now (work .entry)) run)) × (r ≤ 32768) ⌝ }
 {
     let mut high = 0u32;
     let mut k = 0;
-    while k < count {
-        high = greater(high, shifted(y_of(work, at, k), y) + 1);
+    while k < run.count {
+        high = greater(high, shifted(y_of(work, run.at, k), y) + 1);
         k += 1;
     }
     high
 }
 
 // The places of the run's rectangle that none of its records has.
-fn holes_of(work: &[u32], at: usize, count: usize, x: u32, y: u32) -> u32
-    requires { ⌜ Single (now work) at count ⌝ }
-    requires { ⌜ (x ≡ runX (now work) at count) × (y ≡ runY (now work) at count) ⌝ }
-    ensures { λ r. ⌜ r ≡ holes (runEntries (now (work .entry)) at count) ⌝ }
+fn holes_of(work: &[u32], run: Run, least: Least) -> u32
+    requires { ⌜ Ascending (now work) run ⌝ }
+    requires { ⌜ (least .x ≡ leastX (now work) run) × (least .y ≡ leastY (now work) run) ⌝ }
+    ensures { λ r. ⌜ r ≡ holes (entriesOf (now (work .entry)) run) ⌝ }
 {
-    if count == 0 {
+    if run.count == 0 {
         return 0;
     }
-    let width = shifted(x_of(work, at, count - 1), x) + 1;
-    let height = height_of(work, at, count, y);
-    width * height - count as u32
+    let width = shifted(x_of(work, run.at, run.count - 1), least.x) + 1;
+    let height = height_of(work, run, least.y);
+    width * height - run.count as u32
 }
 
 // Three words as a record of a list.
@@ -201,85 +199,73 @@ fn store(list: &mut [u32], place: usize, a: u32, b: u32, c: u32)
     list[3 * place + 2] = c;
 }
 
-// Record k as an entry, with its words less x and y.
-fn write_entry(work: &[u32], at: usize, k: usize, x: u32, y: u32, entries: &mut [u32], place: usize)
+// Record k as an entry, with its words less the least.
+fn write_entry(work: &[u32], at: usize, k: usize, least: Least, entries: &mut [u32], place: usize)
     requires { ⌜ (at + 2 * k + 1 < length (now work)) × (keyIn (now work) at k < 1073741824) ⌝ }
-    requires { ⌜ (x ≤ xIn (now work) at k) × (y ≤ yIn (now work) at k) ⌝ }
+    requires { ⌜ (least .x ≤ xIn (now work) at k) × (least .y ≤ yIn (now work) at k) ⌝ }
     requires { ⌜ 3 * place + 2 < length (now entries) ⌝ }
-    ensures { λ _. ⌜ now (entries .exit) ≡ pasted (3 * place) ((xIn (now (work .entry)) at k - x) ∷ (yIn (now (work .entry)) at k - y) ∷ cornerIn (now (work .entry)) at k ∷ []) (now (entries .entry)) ⌝ }
+    ensures { λ _. ⌜ now (entries .exit) ≡ pasted (3 * place) ((xIn (now (work .entry)) at k - least .x) ∷ (yIn (now (work .entry)) at k - least .y) ∷ cornerIn (now (work .entry)) at k ∷ []) (now (entries .entry)) ⌝ }
 {
-    let u = shifted(x_of(work, at, k), x);
-    let v = shifted(y_of(work, at, k), y);
-    let corner = work[at + 2 * k + 1] / 4096;
+    let u = shifted(x_of(work, at, k), least.x);
+    let v = shifted(y_of(work, at, k), least.y);
+    let corner = work[at + 2 * k + 1] / SEEDS;
     store(entries, place, u, v, corner);
 }
 
 // The records of a run as entries.
-fn write_entries(
-    work: &[u32],
-    at: usize,
-    count: usize,
-    x: u32,
-    y: u32,
-    entries: &mut [u32],
-    place: usize,
-)
-    requires { ⌜ Single (now work) at count ⌝ }
-    requires { ⌜ (x ≡ runX (now work) at count) × (y ≡ runY (now work) at count) ⌝ }
-    requires { ⌜ 3 * (place + count) ≤ length (now entries) ⌝ }
-    ensures { λ _. ⌜ now (entries .exit) ≡ pasted (3 * place) (entryWords (runEntries (now (work .entry)) at count)) (now (entries .entry)) ⌝ }
+fn write_entries(work: &[u32], run: Run, least: Least, entries: &mut [u32], place: usize)
+    requires { ⌜ Ascending (now work) run ⌝ }
+    requires { ⌜ (least .x ≡ leastX (now work) run) × (least .y ≡ leastY (now work) run) ⌝ }
+    requires { ⌜ 3 * (place + run .count) ≤ length (now entries) ⌝ }
+    ensures { λ _. ⌜ now (entries .exit) ≡ pasted (3 * place) (entryWords (entriesOf (now (work .entry)) run)) (now (entries .entry)) ⌝ }
 {
     let mut k = 0;
-    while k < count {
-        write_entry(work, at, k, x, y, entries, place + k);
+    while k < run.count {
+        write_entry(work, run.at, k, least, entries, place + k);
         k += 1;
     }
 }
 
-// A run as a component and its entries, after those that are written.
+// A group's lone records as a component and its entries, after those that are written.
 fn write_component(
     work: &[u32],
-    at: usize,
-    count: usize,
+    runs: Runs,
     totals: Totals,
     components: &mut [u32],
     entries: &mut [u32],
 )
-    requires { ⌜ Single (now work) at count ⌝ }
-    requires { ⌜ (3 * totals .components + 2 < length (now components)) × (3 * (totals .entries + count) ≤ length (now entries)) × (totals .entries < 4294967296) ⌝ }
-    ensures { λ _. ⌜ now (components .exit) ≡ pasted (3 * totals .components) (totals .entries ∷ count ∷ holes (runEntries (now (work .entry)) at count) ∷ []) (now (components .entry)) ⌝ }
-    ensures { λ _. ⌜ now (entries .exit) ≡ pasted (3 * totals .entries) (entryWords (runEntries (now (work .entry)) at count)) (now (entries .entry)) ⌝ }
+    requires { ⌜ Ascending (now work) (runs .lone) ⌝ }
+    requires { ⌜ (3 * totals .components + 2 < length (now components)) × (3 * (totals .entries + runs .lone .count) ≤ length (now entries)) × (totals .entries < 4294967296) ⌝ }
+    ensures { λ _. ⌜ now (components .exit) ≡ pasted (3 * totals .components) (totals .entries ∷ runs .lone .count ∷ holes (entriesOf (now (work .entry)) (runs .lone)) ∷ []) (now (components .entry)) ⌝ }
+    ensures { λ _. ⌜ now (entries .exit) ≡ pasted (3 * totals .entries) (entryWords (entriesOf (now (work .entry)) (runs .lone))) (now (entries .entry)) ⌝ }
 {
-    let x = least_x(work, at, count);
-    let y = least_y(work, at, count);
-    let holes = holes_of(work, at, count, x, y);
-    write_entries(work, at, count, x, y, entries, totals.entries);
+    let least = least_of(work, runs.lone);
+    let holes = holes_of(work, runs.lone, least);
+    write_entries(work, runs.lone, least, entries, totals.entries);
     store(
         components,
         totals.components,
         totals.entries as u32,
-        count as u32,
+        runs.lone.count as u32,
         holes,
     );
 }
 
-// The same, if the run is kept.
+// The same, if the group is kept.
 fn write_kept(
     work: &[u32],
-    at: usize,
-    count: usize,
+    runs: Runs,
     kept: bool,
     totals: Totals,
     components: &mut [u32],
     entries: &mut [u32],
 )
-    requires { ⌜ Single (now work) at count ⌝ }
-    requires { ⌜ (kept ≡ true → (3 * totals .components + 2 < length (now components)) × (3 * (totals .entries + count) ≤ length (now entries)) × (totals .entries < 4294967296)) ⌝ }
-    ensures { λ _. ⌜ now (components .exit) ≡ cond kept (pasted (3 * totals .components) (totals .entries ∷ count ∷ holes (runEntries (now (work .entry)) at count) ∷ []) (now (components .entry))) (now (components .entry)) ⌝ }
-    ensures { λ _. ⌜ now (entries .exit) ≡ cond kept (pasted (3 * totals .entries) (entryWords (runEntries (now (work .entry)) at count)) (now (entries .entry))) (now (entries .entry)) ⌝ }
+    requires { ⌜ (kept ≡ true → Ascending (now work) (runs .lone) × (3 * totals .components + 2 < length (now components)) × (3 * (totals .entries + runs .lone .count) ≤ length (now entries)) × (totals .entries < 4294967296)) ⌝ }
+    ensures { λ _. ⌜ now (components .exit) ≡ cond kept (pasted (3 * totals .components) (totals .entries ∷ runs .lone .count ∷ holes (entriesOf (now (work .entry)) (runs .lone)) ∷ []) (now (components .entry))) (now (components .entry)) ⌝ }
+    ensures { λ _. ⌜ now (entries .exit) ≡ cond kept (pasted (3 * totals .entries) (entryWords (entriesOf (now (work .entry)) (runs .lone))) (now (entries .entry))) (now (entries .entry)) ⌝ }
 {
     if kept {
-        write_component(work, at, count, totals, components, entries);
+        write_component(work, runs, totals, components, entries);
     }
 }
 
@@ -288,37 +274,23 @@ pub(crate) fn write_out(
     work: &[u32],
     span: usize,
     n: usize,
-    m: usize,
-    least: usize,
     components: &mut [u32],
     entries: &mut [u32],
 )
-    requires { ⌜ Lined (now work) (loneAt span) m ⌝ }
-    requires { ⌜ (n ≤ mostQuads) × (4 * span + 14 * n ≤ length (now work)) ⌝ }
-    requires { ⌜ (3 * length (outTo (now work) span n m least n) ≤ length (now components)) × (3 * length (allEntries (outTo (now work) span n m least n)) ≤ length (now entries)) ⌝ }
-    ensures { λ _. ⌜ Written (outTo (now (work .entry)) span n m least n) (now (components .entry)) (now (entries .entry)) (now (components .exit)) (now (entries .exit)) ⌝ }
+    requires { ⌜ Writable (now work) span n ⌝ }
+    requires { ⌜ (3 * length (outTo (now work) span n n) ≤ length (now components)) × (3 * length (allEntries (outTo (now work) span n n)) ≤ length (now entries)) ⌝ }
+    ensures { λ _. ⌜ Written (outTo (now (work .entry)) span n n) (now (components .entry)) (now (entries .entry)) (now (components .exit)) (now (entries .exit)) ⌝ }
 {
     let mut totals = Totals {
         components: 0,
         entries: 0,
     };
-    let mut from = 0;
     let mut s = 0;
     while s < n {
-        let to = run_end(work, 4 * span, m, s, from);
-        let count = to - from;
-        let kept = is_kept(work, span, n, s, least, count);
-        write_kept(
-            work,
-            4 * span + 2 * from,
-            count,
-            kept,
-            totals,
-            components,
-            entries,
-        );
-        totals = counted(totals, kept, count);
-        from = to;
+        let kept = is_kept(fate_at(work, span, n, s));
+        let runs = runs_at(work, span, n, s);
+        write_kept(work, runs, kept, totals, components, entries);
+        totals = counted(totals, kept, runs.lone.count);
         s += 1;
     }
 }

@@ -5,7 +5,7 @@ ghost use lib.ListN.{length};
 ghost use Rattle.refusal.specs.Rows.{_then_};
 ghost use Rattle.mesh.specs.Lists.{wholeRow, limitRow, mostCorners, mostQuads, workRow, quadWords};
 ghost use Rattle.mesh.specs.Cells.{cornersRow, twiceRow};
-ghost use Rattle.walk.specs.declared.LabelParams.{LabelParams};
+ghost use Rattle.fates.specs.declared.LabelParams.{LabelParams};
 ghost use Rattle.walk.specs.Call.{entryGate};
 use mesh::inner::cells::corners_row;
 use mesh::inner::cells::twice_row;

@@ -1,38 +1,16 @@
-// The labelling of quads: each group that has a labelling becomes a component, which lists its lone corners.
-// `label_components` is the call; `inner` has the labelling without its checks.
+// The labelling of quads: each group that is kept becomes a component, which lists its lone corners. `label_components` is the call.
 ghost use Rattle.walk.specs.Call.{Allowed};
 use emit::count_out;
 use emit::write_out;
-use inner::compute;
-use inner::span_of;
+use fates::LabelParams;
+use fates::inner::compute;
+use fates::inner::span_of;
 use refusal::Gate;
 use refusal::Refusal;
 use words::inner::fill_zero;
 
-mod clear;
-mod corners;
 mod emit;
 mod gate;
-mod gather;
-mod inner;
-mod label;
-mod labels;
-mod lone;
-mod prepare;
-mod settle;
-mod steps;
-
-// How the walk of a group ended, and how many quads it queued.
-pub enum Walked {
-    Laid(usize),
-    Clash(usize),
-}
-
-// The least quads of a group and the least listed corners of a component.
-pub struct LabelParams {
-    pub quads: u32,
-    pub corners: u32,
-}
 
 // How many components and entries were written, or why none were.
 pub enum Labelled {
@@ -57,9 +35,8 @@ pub fn label_components(
     }
     let n = quads.len() / 4;
     let span = span_of(n, corners as usize);
-    let least = params.corners as usize;
-    let m = compute(quads, work, span, n, params.quads);
-    let totals = count_out(work, span, n, m, least);
+    compute(quads, work, span, n, params);
+    let totals = count_out(work, span, n);
     if components.len() / 3 < totals.components {
         fill_zero(work);
         return Labelled::Refused(Refusal::RecordsShort(totals.components as u32));
@@ -68,7 +45,7 @@ pub fn label_components(
         fill_zero(work);
         return Labelled::Refused(Refusal::EntriesShort(totals.entries as u32));
     }
-    write_out(work, span, n, m, least, components, entries);
+    write_out(work, span, n, components, entries);
     fill_zero(work);
     Labelled::Done(totals.components as u32, totals.entries as u32)
 }

@@ -1,10 +1,12 @@
-// The calls of the stages, whole: the rows that each has, and the ruled build's answer. A refusal
-// leaves the list as it was.
+// The calls of the stages and of the whole frame: the rows that each has, and the ruled build's
+// answer. A refusal leaves the output lists as they were.
 
 mod filters;
+mod frames;
 mod labels;
 
 pub use filters::filters;
+pub use frames::{answer_frame, frame_words, judge_frame, label_frame};
 pub use labels::{labels, Given};
 
 use crate::judge::{counts, first_of, missing_corner, positions, repeated_corner, twins, Refusal};

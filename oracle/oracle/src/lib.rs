@@ -3,6 +3,8 @@
 pub mod calls;
 pub mod compare;
 pub mod demand;
+pub mod examples;
+pub mod frames;
 pub mod gap;
 pub mod generate;
 pub mod judge;

@@ -19,6 +19,9 @@ oracle vectors numbers DIR     vectors of the number calls, written into DIR
 oracle vectors stages DIR      vectors of axis cache, classes and quads, written into DIR
 oracle vectors filters DIR     vectors of the filters, written into DIR
 oracle vectors labels DIR      vectors of the labelling, written into DIR
+oracle vectors frames DIR      vectors of the whole frame, written into DIR
+oracle vectors texts DIR       vectors of the program, written into DIR
+oracle examples DIR            the example frames as texts with their answers, written into DIR
 oracle help                    this list
 ";
 
@@ -32,6 +35,7 @@ fn run(name: &str, args: &[String]) -> Outcome {
         "compare" => commands::compare::run(args),
         "gap" => commands::gap::run(args),
         "vectors" => commands::vectors::run(args),
+        "examples" => commands::examples::run(args),
         "help" => {
             print!("{HELP}");
             Ok(())

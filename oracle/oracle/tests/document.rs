@@ -1,18 +1,9 @@
 // Document 01's examples: the program's, and those of the labelling.
 
+use oracle::examples::SQUARE as FRAME;
 use oracle::quads_text::label_text;
 use oracle::stages::Build;
 use oracle::text::answer;
-
-const FRAME: &str = "\
-P 3E800000 3FC00000 3F000000 40000000 3F800000 1 4
-C 00000000 00000000 00000000 - 3FC90FDB -
-C 41200000 00000000 00000000 - 3FC90FDB -
-C 41200000 41200000 00000000 - 3FC90FDB -
-C 00000000 41200000 00000000 - 3FC90FDB -
-T 0 1 2 - - 3
-T 0 2 3 2 - -
-";
 
 const FRAME_ANSWER: &str = "components 1\ncomponent 0 4 0\n0 0 0\n0 1 3\n1 0 1\n1 1 2\n";
 

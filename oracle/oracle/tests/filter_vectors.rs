@@ -3,10 +3,12 @@
 mod common {
     pub mod cases;
     pub mod files;
+    pub mod over;
 }
 
-use common::cases::{either_side, over, parts, sound};
+use common::cases::{either_side, parts, sound};
 use common::files::read_back;
+use common::over::over;
 use oracle::judge::Refusal;
 use oracle::vectors::filters::{filter_cases, write_filters, Case, Summary};
 use oracle::vectors::{OverQuads, Summed, Vector};

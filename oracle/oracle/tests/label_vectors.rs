@@ -4,10 +4,12 @@
 mod common {
     pub mod cases;
     pub mod files;
+    pub mod over;
 }
 
-use common::cases::{either_side, over, parts, sound};
+use common::cases::{either_side, parts, sound};
 use common::files::read_back;
+use common::over::over;
 use oracle::demand::{components, fates};
 use oracle::judge::Refusal;
 use oracle::vectors::labels::{label_cases, write_labels, Case, Summary};

@@ -2,7 +2,7 @@
 use mathlib.Core.Path.{sym, _∙_}
 use native.Mathlib.Omega.{arith}
 use Rattle.walk.specs.Input.{Input}
-use Rattle.walk.proofs.Outcomes.{shut, Entered, Ran, Ended, may-compute, lined, may-count, few, may-write, short, short-entries, done}
+use Rattle.walk.proofs.Outcomes.{shut, Entered, Ran, Ended, may-compute, may-emit, few, may-write, short, short-entries, done}
 use borrow.Author.Needs.{needs}
 use Rattle.walk.proofs.label_components.Statement.{statement}
 use Rattle.walk.proofs.label_components.Tie as tie
@@ -10,14 +10,14 @@ use Rattle.walk.proofs.label_components.Tie as tie
 abbrev read : tie.Start → Input
 read s = record { quads = s .args .quads .now; corners = s .args .corners; params = s .args .params }
 
--- where the rows are open, where the lone records stand in the workspace, and where they are counted
+-- where the rows are open, where every quad has its fate, and where the components are counted
 entered : (c : tie.After-span-of) → Entered (read (c .before .before .before .before .before .before .before .before)) (c .before .before .before .before .before .before .before .before .args .work .now) (c .span-of .result)
 entered c = record { through = sym (c .before .before .before .entry .ensures (c .before .before .before .before .before .before .before .before .args .params)) ∙ c .before .enum-told .given .1; spanned = c .span-of .ensures }
 
-ran : (c : tie.After-compute) → Ran (read (c .before .before .before .before .before .before .before .before .before .before .before)) (c .before .before .before .before .before .before .before .before .before .before .before .args .work .now) (c .before .before .before .span-of .result) (c .compute .result) (c .compute .last .1 .0)
-ran c = record { entered = entered (c .before .before .before); computed = c .compute .ensures }
+ran : (c : tie.After-compute) → Ran (read (c .before .before .before .before .before .before .before .before .before .before)) (c .before .before .before .before .before .before .before .before .before .before .args .work .now) (c .before .before .span-of .result) (c .compute .last .1 .0)
+ran c = record { entered = entered (c .before .before); computed = c .compute .ensures }
 
-ended : (c : tie.After-count-out) → Ended (read (c .before .before .before .before .before .before .before .before .before .before .before .before .before .before .before)) (c .before .before .before .before .before .before .before .before .before .before .before .before .before .before .before .args .work .now) (c .before .before .before .before .before .before .before .span-of .result) (c .before .before .before .before .compute .result) (c .before .before .before .before .compute .last .1 .0) (c .count-out .result .components) (c .count-out .result .entries)
+ended : (c : tie.After-count-out) → Ended (read (c .before .before .before .before .before .before .before .before .before .before .before .before .before .before)) (c .before .before .before .before .before .before .before .before .before .before .before .before .before .before .args .work .now) (c .before .before .before .before .before .before .span-of .result) (c .before .before .before .before .compute .last .1 .0) (c .count-out .result .components) (c .count-out .result .entries)
 ended c = record { ran = ran (c .before .before .before .before); counted = c .count-out .ensures }
 
 entry-requires : tie.Need-entry-requires
@@ -35,20 +35,17 @@ enum-told c = search needs
 span-of-requires : tie.Need-span-of-requires
 span-of-requires c κs = search needs
 
-cast-least : tie.Need-cast-least
-cast-least c = search needs
-
 compute-requires : tie.Need-compute-requires
-compute-requires c κs = may-compute (entered (c .before .before))
+compute-requires c κs = may-compute (entered (c .before))
 
 count-out-requires : tie.Need-count-out-requires
-count-out-requires c κs = (lined (ran (c .before .before .before)), may-count (ran (c .before .before .before)))
+count-out-requires c κs = may-emit (ran (c .before .before .before))
 
 fill-zero-requires : tie.Need-fill-zero-requires
 fill-zero-requires c κs = search needs
 
-cast-t24 : tie.Need-cast-t24
-cast-t24 c = omega (arith, few (ended (c .before .before .before .before .before .before .before)))
+cast-t23 : tie.Need-cast-t23
+cast-t23 c = omega (arith, few (ended (c .before .before .before .before .before .before .before)))
 
 same-length : tie.Need-same-length
 same-length c = search needs
@@ -59,8 +56,8 @@ returns-2 c = short (ended (c .before .before .before .before .before .before .b
 fill-zero-requires-2 : tie.Need-fill-zero-requires-2
 fill-zero-requires-2 c κs = search needs
 
-cast-t29 : tie.Need-cast-t29
-cast-t29 c = omega (arith, few (ended (c .before .before .before .before .before .before .before .before .before)))
+cast-t28 : tie.Need-cast-t28
+cast-t28 c = omega (arith, few (ended (c .before .before .before .before .before .before .before .before .before)))
 
 same-length-2 : tie.Need-same-length-2
 same-length-2 c = search needs
@@ -69,16 +66,16 @@ returns-3 : tie.Need-returns-3
 returns-3 c = short-entries (ended (c .before .before .before .before .before .before .before .before .before)) _ _ _ (c .before .before .before .fill-zero2 .ensures) (c .before .before .before .before .before .before .before .if1 .left) (c .before .before .before .before .before .if2 .taken)
 
 write-out-requires : tie.Need-write-out-requires
-write-out-requires c κs = (lined (ran (c .before .before .before .before .before .before .before .before .before .before .before)), (may-count (ran (c .before .before .before .before .before .before .before .before .before .before .before)), may-write (ended (c .before .before .before .before .before .before .before)) (c .before .before .before .before .before .before .before .before .before .before .before .before .before .before .before .before .before .before .before .before .before .before .args .components .now) (c .before .before .before .before .before .before .before .before .before .before .before .before .before .before .before .before .before .before .before .before .before .before .args .entries .now) (c .before .before .before .before .before .if1 .left) (c .before .before .before .if2 .left)))
+write-out-requires c κs = (may-emit (ran (c .before .before .before .before .before .before .before .before .before .before .before)), may-write (ended (c .before .before .before .before .before .before .before)) (c .before .before .before .before .before .before .before .before .before .before .before .before .before .before .before .before .before .before .before .before .before .args .components .now) (c .before .before .before .before .before .before .before .before .before .before .before .before .before .before .before .before .before .before .before .before .before .args .entries .now) (c .before .before .before .before .before .if1 .left) (c .before .before .before .if2 .left))
 
 fill-zero-requires-3 : tie.Need-fill-zero-requires-3
 fill-zero-requires-3 c κs = search needs
 
-cast-t40 : tie.Need-cast-t40
-cast-t40 c = omega (arith, few (ended (c .before .before .before .before .before .before .before .before .before .before .before .before .before .before .before .before .before)))
+cast-t38 : tie.Need-cast-t38
+cast-t38 c = omega (arith, few (ended (c .before .before .before .before .before .before .before .before .before .before .before .before .before .before .before .before .before)))
 
-cast-t41 : tie.Need-cast-t41
-cast-t41 c = omega (arith, few (ended (c .before .before .before .before .before .before .before .before .before .before .before .before .before .before .before .before .before .before)))
+cast-t39 : tie.Need-cast-t39
+cast-t39 c = omega (arith, few (ended (c .before .before .before .before .before .before .before .before .before .before .before .before .before .before .before .before .before .before)))
 
 same-length-3 : tie.Need-same-length-3
 same-length-3 c = search needs
@@ -101,21 +98,20 @@ label-components-spec =
     returns
     enum-told
     span-of-requires
-    cast-least
     compute-requires
     count-out-requires
     fill-zero-requires
-    cast-t24
+    cast-t23
     same-length
     returns-2
     fill-zero-requires-2
-    cast-t29
+    cast-t28
     same-length-2
     returns-3
     write-out-requires
     fill-zero-requires-3
-    cast-t40
-    cast-t41
+    cast-t38
+    cast-t39
     same-length-3
     same-length-4
     same-length-5

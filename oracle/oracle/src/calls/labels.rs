@@ -29,6 +29,24 @@ fn entry_words(entry: &Entry) -> [u32; 3] {
     [entry.u as u32, entry.v as u32, entry.corner]
 }
 
+/// Rows 9 and 10 and what success writes, for the components that a call found: gives the numbers
+/// of components and of entries.
+pub(super) fn write_answer(
+    answer: &[Component],
+    components: &mut [u32],
+    entries: &mut [u32],
+) -> Result<[usize; 2], Refusal> {
+    let heads = component_words(answer);
+    let listed: Vec<u32> = answer
+        .iter()
+        .flat_map(|component| component.entries.iter().flat_map(entry_words))
+        .collect();
+    let counts = [room(components, &heads, 3, 9)?, room(entries, &listed, 3, 10)?];
+    components[..heads.len()].copy_from_slice(&heads);
+    entries[..listed.len()].copy_from_slice(&listed);
+    Ok(counts)
+}
+
 /// Rows 1 to 8.
 fn judge(given: &Given, work: &[u32]) -> Option<Refusal> {
     let corners = given.corners as usize;
@@ -48,13 +66,5 @@ pub fn labels(
     }
     work.fill(0);
     let answer = plain::label(&records(given.quads), given.least_quads, given.least_corners);
-    let heads = component_words(&answer);
-    let listed: Vec<u32> = answer
-        .iter()
-        .flat_map(|component| component.entries.iter().flat_map(entry_words))
-        .collect();
-    let counts = [room(components, &heads, 3, 9)?, room(entries, &listed, 3, 10)?];
-    components[..heads.len()].copy_from_slice(&heads);
-    entries[..listed.len()].copy_from_slice(&listed);
-    Ok(counts)
+    write_answer(&answer, components, entries)
 }

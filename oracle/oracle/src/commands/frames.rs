@@ -3,42 +3,22 @@
 
 use super::{number, Outcome};
 use oracle::generate::bad_text::{spoil, WAYS};
-use oracle::generate::damage::damage;
-use oracle::generate::{maker, KINDS};
+use oracle::generate::{maker, texts, KINDS};
 use oracle::random::Random;
 use oracle::stages::Build;
-use oracle::text::{answer, fits, write, MOST_TEXT_CORNERS};
+use oracle::text::{answer, MOST_TEXT_CORNERS};
 use std::io::Write;
 use std::path::Path;
 
 /// A text has room for this many corners.
 const CORNERS: usize = MOST_TEXT_CORNERS;
 
-/// A sound frame's text: drawn again until it fits and has triangles.
+/// A sound frame's text.
 fn sound(kind: &str, random: &mut Random) -> Result<String, String> {
     let names: Vec<&str> = KINDS.iter().map(|k| k.0).collect();
     let make = maker(kind)
         .ok_or_else(|| format!("no kind {kind}; kinds: {} row3 .. row7 bad", names.join(" ")))?;
-    loop {
-        let frame = make(CORNERS, random);
-        if fits(&frame) && frame.half_edges() > 0 {
-            return Ok(write(&frame));
-        }
-    }
-}
-
-/// A frame that a row refuses. Rows 1 and 2 cannot be said in a text.
-fn damaged(row: u32, random: &mut Random) -> String {
-    loop {
-        let mut frame = KINDS[random.below(4)].1(CORNERS, random);
-        if !fits(&frame) || frame.half_edges() == 0 {
-            continue;
-        }
-        damage(row, &mut frame, random);
-        if fits(&frame) {
-            return write(&frame);
-        }
-    }
+    Ok(texts::sound(make, CORNERS, random))
 }
 
 /// The text with this number. "bad" goes through the ways of spoiling one in turn.
@@ -49,7 +29,7 @@ fn text(kind: &str, seed: u64, i: usize) -> Result<Vec<u8>, String> {
         return Ok(spoil(WAYS[i % WAYS.len()], &good, &mut random).0);
     }
     match kind.strip_prefix("row").and_then(|row| row.parse().ok()) {
-        Some(row @ 3..=7) => Ok(damaged(row, &mut random).into_bytes()),
+        Some(row @ 3..=7) => Ok(texts::damaged(row, CORNERS, &mut random).into_bytes()),
         _ => Ok(sound(kind, &mut random)?.into_bytes()),
     }
 }

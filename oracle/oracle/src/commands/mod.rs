@@ -2,6 +2,7 @@
 
 pub mod compare;
 pub mod demand;
+pub mod examples;
 pub mod frames;
 pub mod gap;
 pub mod gridlabel;

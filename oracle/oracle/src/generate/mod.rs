@@ -15,16 +15,19 @@ mod rosettes;
 mod scatter;
 mod sheet;
 mod tables;
+pub mod texts;
 mod ties;
 mod torus;
 mod triangulate;
 mod tune;
 mod warp;
 
+pub use torus::torus;
+
 use crate::random::Random;
 use frame::Frame;
 
-type Maker = fn(usize, &mut Random) -> Frame;
+pub type Maker = fn(usize, &mut Random) -> Frame;
 
 /// The kinds whose frames are sound, with the maker of each: corners at most, generator.
 pub const KINDS: [(&str, Maker); 16] = [

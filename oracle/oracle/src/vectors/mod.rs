@@ -1,5 +1,5 @@
-// Vectors for the number calls, the stage calls, the filters and the labelling: inputs and the
-// answers that document 01 gives.
+// Vectors for the number calls, the stage calls, the filters, the labelling, the whole frame and
+// the program: inputs and the answers that document 01 gives.
 
 mod angles;
 mod counts;
@@ -7,11 +7,17 @@ mod distances;
 mod faults;
 pub mod filters;
 mod form;
+mod frame_rows;
+pub mod frames;
 pub mod labels;
+mod meshes;
 mod over_quads;
 mod pack;
 mod roots;
+mod sized;
 pub mod stages;
+pub mod texts;
+mod twin_rows;
 mod vector;
 mod work;
 mod write;

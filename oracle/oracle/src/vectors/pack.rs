@@ -12,25 +12,30 @@ const LONGEST: usize = 65_000;
 #[derive(Default)]
 pub struct File {
     pub name: String,
-    pub cases: String,
+    pub cases: Vec<u8>,
     pub answers: String,
 }
 
-/// The files of some cases of one kind: a case that does not fit begins a new one.
-fn files_of<C: Vector>(kind: &str, cases: &[C]) -> Vec<File> {
+/// The files of some cases, each with its answer: a case that does not fit begins a new one.
+pub fn files(kind: &str, cases: impl Iterator<Item = (Vec<u8>, String)>) -> Vec<File> {
     let mut files: Vec<File> = Vec::new();
-    for case in cases.iter().filter(|case| case.kind() == kind) {
-        let text = text(&case.words());
-        if files.last().is_none_or(|file| file.cases.len() + text.len() > LONGEST) {
+    for (case, answer) in cases {
+        if files.last().is_none_or(|file| file.cases.len() + case.len() > LONGEST) {
             let name = format!("{kind}-{}", files.len() + 1);
             files.push(File { name, ..File::default() });
         }
         if let Some(file) = files.last_mut() {
-            file.cases += &text;
-            file.answers += &case.answer().lines();
+            file.cases.extend(case);
+            file.answers += &answer;
         }
     }
     files
+}
+
+/// The files of the cases of one kind.
+fn files_of<C: Vector>(kind: &str, cases: &[C]) -> Vec<File> {
+    let own = cases.iter().filter(|case| case.kind() == kind);
+    files(kind, own.map(|case| (text(&case.words()).into_bytes(), case.answer().lines())))
 }
 
 /// The files of all cases, the kinds in the order in which they first come.

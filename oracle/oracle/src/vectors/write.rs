@@ -11,16 +11,16 @@ fn word(x: f32) -> String {
 }
 
 fn pairs(name: &str, list: &[[u32; 2]], answer: impl Fn(f32, f32) -> String) -> File {
-    let cases = list.iter().map(|[a, b]| format!("{a:08X} {b:08X}\n")).collect();
+    let cases: String = list.iter().map(|[a, b]| format!("{a:08X} {b:08X}\n")).collect();
     let given = list.iter().map(|pair| pair.map(f32::from_bits));
     let answers = given.map(|[a, b]| answer(a, b)).collect();
-    File { name: name.to_string(), cases, answers }
+    File { name: name.to_string(), cases: cases.into_bytes(), answers }
 }
 
 fn singles(name: &str, list: &[u32], answer: impl Fn(f32) -> String) -> File {
-    let cases = list.iter().map(|a| format!("{a:08X}\n")).collect();
+    let cases: String = list.iter().map(|a| format!("{a:08X}\n")).collect();
     let answers = list.iter().map(|&a| answer(f32::from_bits(a))).collect();
-    File { name: name.to_string(), cases, answers }
+    File { name: name.to_string(), cases: cases.into_bytes(), answers }
 }
 
 fn or_refused(answer: Option<f32>) -> String {
@@ -49,5 +49,6 @@ fn files() -> [File; 5] {
 pub fn write_numbers(folder: &Path) -> io::Result<Vec<(String, usize)>> {
     let files = files();
     write(folder, &files)?;
-    Ok(files.into_iter().map(|file| (file.name, file.cases.lines().count())).collect())
+    let rows = |file: &File| file.cases.split(|&b| b == b'\n').count() - 1;
+    Ok(files.iter().map(|file| (file.name.clone(), rows(file))).collect())
 }

@@ -1,4 +1,4 @@
-// What the tests of the cases over quad lists share.
+// What the tests of the cases with lent lists share.
 
 use oracle::vectors::Vector;
 
@@ -37,9 +37,4 @@ pub fn parts<const NUMBERS: usize, const LISTS: usize>(
     let lists = std::array::from_fn(|_| take_list(&mut rest));
     assert!(rest.is_empty());
     (*numbers, lists)
-}
-
-/// A list said over and over up to a length.
-pub fn over(list: &[u32], length: u32) -> Vec<u32> {
-    list.iter().cycle().take(length as usize).copied().collect()
 }

@@ -15,9 +15,7 @@ x-of-requires : tie.Need-x-of-requires
 x-of-requires c κs = search needs
 
 returns-2 : tie.Need-returns-2
-returns-2 c =
-    let s = c .before .before .before in
-    c .x-of .ensures ∙ sym (x-first (s .args .work .now) (s .args .at) (s .args .count) (s .pre) (omega arith))
+returns-2 c = let s = c .before .before .before .before in c .x-of .ensures ∙ sym (x-first (s .args .work .now) (s .args .run) (s .pre) (omega arith))
 
 pub least-x-spec : {M : Type 1} → statement M
 least-x-spec = tie.close (tie.spec returns x-of-requires returns-2)

@@ -4,17 +4,16 @@ use Prim.Native.Nat.{_-_, _≤_}
 use native.Mathlib.Numerals.{add-one}
 use native.Mathlib.Omega.{arith}
 use borrow.Author.Needs.{needs}
-use Rattle.walk.specs.Fates.{seedIn}
 use Rattle.walk.specs.Emitted.{yIn, leastOf}
-use Rattle.walk.proofs.Shifted.{least-yes}
+use Rattle.walk.proofs.Shifted.{least-more}
 use Rattle.walk.proofs.emit.least_y.Statement.{statement}
 use Rattle.walk.proofs.emit.least_y.Tie as tie
 
 abbrev Inv-loop : tie.InvT-loop
-Inv-loop work at count y₀ k₀ y k = (k ≤ count) × (y ≡ leastOf work at (yIn work at) (seedIn work at 0) k)
+Inv-loop work run y₀ k₀ y k = (k ≤ run .count) × (y ≡ leastOf (yIn work (run .at)) k)
 
 abbrev μ-loop : tie.MeasureT-loop
-μ-loop work at count y₀ k₀ y k = count - k
+μ-loop work run y₀ k₀ y k = run .count - k
 
 loop-holds : tie.Need-loop-holds Inv-loop μ-loop
 unfolding leastOf
@@ -34,28 +33,16 @@ loop-less c = search needs
 
 loop-again : tie.Need-loop-again Inv-loop μ-loop
 loop-again c =
-    let s = c .before .before .before .before .before in
-    let z = s .args in
-    let l = c .before .before .before .loop in
-    let e = least-yes (z .work .now) (z .at) (yIn (z .work .now) (z .at)) (seedIn (z .work .now) (z .at) 0) (l .k) (s .pre .alike (l .k) (omega arith)) in
-    (omega arith, rw (add-one (l .k)) (omega (arith, c .lesser .ensures, c .before .y-of .ensures)))
+    let z = c .before .before .before .before .before .before .args in
+    let l = c .before .before .before .before .loop in
+    let e = least-more (yIn (z .work .now) (z .run .at)) (l .k) in
+    (omega arith, rw (add-one (l .k)) (omega (arith, e, c .lesser .ensures, c .before .y-of .ensures, l .inv .1)))
 
 returns : tie.Need-returns Inv-loop μ-loop
 returns c =
-    let l = c .before .loop in
-    let e : l .k ≡ c .before .before .before .args .count = omega arith in
+    let l = c .before .before .loop in
+    let e : l .k ≡ c .before .before .before .before .args .run .count = omega arith in
     rw e at (l .inv .1)
 
 pub least-y-spec : {M : Type 1} → statement M
-least-y-spec =
-    tie.close
-    (tie.spec
-    Inv-loop
-    μ-loop
-    loop-holds
-    y-of-requires
-    lesser-requires
-    add-k
-    loop-less
-    loop-again
-    returns)
+least-y-spec = tie.close (tie.spec Inv-loop μ-loop loop-holds y-of-requires lesser-requires add-k loop-less loop-again returns)

@@ -6,7 +6,7 @@ use lib.IntN.{pos, _-ℤ_}
 use mir.Syntax.{w32}
 use mir.Val.{toZ, ofZ}
 use mir.Facts.{toZ-ofZ}
-use Rattle.walk.proofs.Reading.{machine-label}
+use Rattle.laying.proofs.Reading.{machine-label}
 use Rattle.walk.proofs.Above.{difference}
 use borrow.Author.Needs.{needs}
 use Rattle.walk.proofs.emit.shifted.Statement.{statement}

@@ -7,11 +7,8 @@ use Rattle.walk.specs.Emitting.{pasted}
 use Rattle.walk.proofs.emit.write_component.Statement.{statement}
 use Rattle.walk.proofs.emit.write_component.Tie as tie
 
-least-x-requires : tie.Need-least-x-requires
-least-x-requires c κs = search needs
-
-least-y-requires : tie.Need-least-y-requires
-least-y-requires c κs = search needs
+least-of-requires : tie.Need-least-of-requires
+least-of-requires c κs = search needs
 
 holes-of-requires : tie.Need-holes-of-requires
 holes-of-requires c κs = search needs
@@ -37,19 +34,7 @@ same-length-2 c = search needs
 returns : tie.Need-returns
 returns c =
     let z = c .before .before .before .before .before .before .before .before .before .before .before .before .before .before .before .args in
-    (c .before .before .store .ensures ∙ ap (λ (h : ℕ). pasted (3 * z .totals .components) (z .totals .entries ∷ z .count ∷ h ∷ []) (z .components .now)) (c .before .before .before .before .before .before .before .before .before .holes-of .ensures), c .before .before .before .before .before .before .before .write-entries .ensures)
+    (c .before .before .store .ensures ∙ ap (λ (h : ℕ). pasted (3 * z .totals .components) (z .totals .entries ∷ z .runs .lone .count ∷ h ∷ []) (z .components .now)) (c .before .before .before .before .before .before .before .before .before .before .holes-of .ensures), c .before .before .before .before .before .before .before .before .write-entries .ensures)
 
 pub write-component-spec : {M : Type 1} → statement M
-write-component-spec =
-    tie.close
-    (tie.spec
-    least-x-requires
-    least-y-requires
-    holes-of-requires
-    write-entries-requires
-    cast-store
-    cast-store-2
-    store-requires
-    same-length
-    same-length-2
-    returns)
+write-component-spec = tie.close (tie.spec least-of-requires holes-of-requires write-entries-requires cast-store cast-store-2 store-requires same-length same-length-2 returns)

@@ -3,7 +3,7 @@ use mathlib.Core.Path.{ap, ap₂, _∙_}
 use mathlib.Core.List.{[], _∷_}
 use Prim.Native.Nat.{ℕ, _*_, _-_}
 use borrow.Author.Needs.{needs}
-use Rattle.walk.specs.Fates.{cornerIn}
+use Rattle.fates.specs.Fates.{cornerIn}
 use Rattle.walk.specs.Emitting.{pasted}
 use Rattle.walk.proofs.emit.write_entry.Statement.{statement}
 use Rattle.walk.proofs.emit.write_entry.Tie as tie
@@ -46,8 +46,8 @@ returns c =
     let z = c .before .before .before .before .before .before .before .before .before .before .before .args in
     c .before .before .store .ensures
     ∙ ap₂ (λ (u v : ℕ). pasted (3 * z .place) (u ∷ v ∷ cornerIn (z .work .now) (z .at) (z .k) ∷ []) (z .entries .now))
-    (c .before .before .before .before .before .before .before .shifted .ensures ∙ ap (λ (word : ℕ). word - z .x) (c .before .before .before .before .before .before .before .before .x-of .ensures))
-    (c .before .before .before .before .before .shifted2 .ensures ∙ ap (λ (word : ℕ). word - z .y) (c .before .before .before .before .before .before .y-of .ensures))
+    (c .before .before .before .before .before .before .before .shifted .ensures ∙ ap (λ (word : ℕ). word - z .least .x) (c .before .before .before .before .before .before .before .before .x-of .ensures))
+    (c .before .before .before .before .before .shifted2 .ensures ∙ ap (λ (word : ℕ). word - z .least .y) (c .before .before .before .before .before .before .y-of .ensures))
 
 pub write-entry-spec : {M : Type 1} → statement M
 write-entry-spec =

@@ -1,10 +1,10 @@
--- `write_kept` goes by whether the run is kept.
+-- `write_kept` goes by whether the group is kept.
 use borrow.Author.Needs.{needs}
 use Rattle.walk.proofs.emit.write_kept.Statement.{statement}
 use Rattle.walk.proofs.emit.write_kept.Tie as tie
 
 write-component-requires : tie.Need-write-component-requires
-write-component-requires c κs = let s = c .before .before .before .before .before .before in (s .pre .0, s .pre .1 (c .before .before .if1 .taken))
+write-component-requires c κs = let p = c .before .before .before .before .before .before .pre (c .before .before .if1 .taken) in (p .0, (p .1, p .2, p .3))
 
 same-length : tie.Need-same-length
 same-length c = search needs
@@ -19,5 +19,4 @@ returns-2 : tie.Need-returns-2
 returns-2 c = search needs
 
 pub write-kept-spec : {M : Type 1} → statement M
-write-kept-spec =
-    tie.close (tie.spec write-component-requires same-length same-length-2 returns returns-2)
+write-kept-spec = tie.close (tie.spec write-component-requires same-length same-length-2 returns returns-2)

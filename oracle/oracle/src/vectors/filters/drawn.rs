@@ -6,12 +6,12 @@ use crate::generate::patterns::cells;
 use crate::generate::quad_lists::{quad_list, QUAD_KINDS};
 use crate::generate::KINDS;
 use crate::random::Random;
+use crate::vectors::sized::frame_with_quads;
 use frame::Frame;
 
 const SEED: u64 = 14;
 const FRAMES: usize = 6 * KINDS.len();
 const LISTS: usize = 12 * QUAD_KINDS.len();
-const MOST_QUADS: usize = 24;
 
 /// Corners along and across of the grids, and their noise in pitches; the last is the largest.
 const GRIDS: [(usize, usize, f64); 9] = [
@@ -25,21 +25,6 @@ const GRIDS: [(usize, usize, f64); 9] = [
     (9, 4, 0.6),
     (16, 16, 0.12),
 ];
-
-/// A frame of a kind that makes some quads, and not too many. Some kinds seldom do, so that the
-/// frames grow as they are drawn again, and in the end any will do.
-fn frame_with_quads(kind: usize, random: &mut Random) -> (Frame, Vec<[u32; 4]>) {
-    let mut tries = 0;
-    loop {
-        let corners = random.between(4, 16 + tries) as usize;
-        let frame = KINDS[kind].1(corners, random);
-        let quads = ruled::quads(&frame, &ruled::classes(&frame));
-        if (2..=MOST_QUADS).contains(&quads.len()) || tries > 60 {
-            return (frame, quads);
-        }
-        tries += 1;
-    }
-}
 
 /// A grid of corners that are off their places by up to so many pitches.
 pub fn noisy_grid(wide: usize, high: usize, noise: f64, random: &mut Random) -> Case {

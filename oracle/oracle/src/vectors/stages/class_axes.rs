@@ -1,7 +1,7 @@
 // Classes with equal distances at a corner, missing distances, and sides without a direction.
 
-use super::meshes::{mesh, set_axes, square, square_of, strip, SQUARE};
 use super::Case;
+use crate::vectors::meshes::{mesh, set_axes, square, square_of, strip, SQUARE};
 use frame::Frame;
 use rules::{HALF_PI, PI, QUARTER_PI};
 

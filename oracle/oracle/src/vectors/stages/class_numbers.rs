@@ -2,9 +2,9 @@
 
 use std::collections::BTreeSet;
 
-use super::meshes::{set_axes, square};
 use super::Case;
 use crate::vectors::form::moved;
+use crate::vectors::meshes::{set_axes, square};
 use crate::vectors::Vector;
 use frame::Frame;
 use rules::{angle, distance, HALF_PI};

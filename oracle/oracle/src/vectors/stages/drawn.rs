@@ -5,36 +5,13 @@ use super::Case;
 use crate::generate::{damage::damage, KINDS};
 use crate::random::Random;
 use crate::vectors::form::untouched;
+use crate::vectors::sized::{draw, MIDDLING, SMALL};
 use crate::vectors::Vector;
-use frame::Frame;
 
 const SEED: u64 = 6;
 /// The last of each kind is of middling size.
 const FRAMES: usize = 22 * KINDS.len();
 const DAMAGED: usize = 42;
-
-/// A size: corners from and to, half-edges from and to.
-struct Size {
-    corners: (i32, i32),
-    half_edges: (usize, usize),
-}
-
-const SMALL: Size = Size { corners: (4, 18), half_edges: (1, 31) };
-const MIDDLING: Size = Size { corners: (24, 40), half_edges: (60, 110) };
-
-/// A frame of a kind, drawn again until it has the size; as some kinds have no frames of every
-/// size, each draw may be a little larger than the last.
-fn draw(kind: usize, size: &Size, random: &mut Random) -> Frame {
-    let (least, mut most) = size.half_edges;
-    loop {
-        let corners = random.between(size.corners.0, size.corners.1) as usize;
-        let frame = KINDS[kind].1(corners, random);
-        if (least..=most).contains(&frame.half_edges()) {
-            return frame;
-        }
-        most += 2;
-    }
-}
 
 /// Gives the quad list a drawn length: mostly enough, at times one record short.
 fn draw_room(case: &mut Case, random: &mut Random) {

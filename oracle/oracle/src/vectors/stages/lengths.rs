@@ -1,25 +1,23 @@
 // Row 1 of both calls: each list by itself longer and shorter, and lists that are not whole.
 
-use super::meshes::{square, strip};
 use super::{Case, Kind};
 use crate::vectors::form::{resize, untouched};
+use crate::vectors::frame_rows::LISTS;
+use crate::vectors::meshes::{square, strip};
 use crate::vectors::Vector;
-use frame::{Frame, NONE};
+use frame::Frame;
 
-type Change = fn(&mut Case, i32);
+/// The lists by their places: those of a frame, then the class list.
+const PLACES: usize = LISTS.len() + 1;
 
-const LISTS: [Change; 8] = [
-    |case, by| resize(&mut case.frame.x, by, 0.0),
-    |case, by| resize(&mut case.frame.y, by, 0.0),
-    |case, by| resize(&mut case.frame.angles, by, 0.0),
-    |case, by| resize(&mut case.frame.marks, by, 0),
-    |case, by| resize(&mut case.frame.spreads, by, 0.0),
-    |case, by| resize(&mut case.frame.triangles, by, 0),
-    |case, by| resize(&mut case.frame.twins, by, NONE),
-    |case, by| resize(&mut case.classes, by, 1),
-];
+fn change(case: &mut Case, place: usize, by: i32) {
+    match LISTS.get(place) {
+        Some(list) => list(&mut case.frame, by),
+        None => resize(&mut case.classes, by, 1),
+    }
+}
 
-/// The lists that a kind has, by their place above.
+/// The lists that a kind has, by their places.
 fn has(kind: Kind, list: usize) -> bool {
     match kind {
         Kind::Classes => list != 6,
@@ -28,11 +26,9 @@ fn has(kind: Kind, list: usize) -> bool {
 }
 
 fn single_lists(cases: &mut Vec<Case>, sound: &Case) {
-    for (place, change) in LISTS.iter().enumerate() {
-        if has(sound.kind, place) {
-            for by in [-100, -3, -1, 1, 2] {
-                cases.push(sound.with(|case| change(case, by)));
-            }
+    for place in (0..PLACES).filter(|&place| has(sound.kind, place)) {
+        for by in [-100, -3, -1, 1, 2] {
+            cases.push(sound.with(|case| change(case, place, by)));
         }
     }
 }
@@ -40,11 +36,11 @@ fn single_lists(cases: &mut Vec<Case>, sound: &Case) {
 /// Several lists changed alike: paired again, though perhaps not whole.
 fn groups_of_lists(cases: &mut Vec<Case>, sound: &Case) {
     for by in [-100, -3, -2, -1, 1, 2] {
-        cases.push(sound.with(|case| LISTS[5..].iter().for_each(|change| change(case, by))));
-        cases.push(sound.with(|case| LISTS[2..5].iter().for_each(|change| change(case, by))));
+        cases.push(sound.with(|case| (5..PLACES).for_each(|place| change(case, place, by))));
+        cases.push(sound.with(|case| (2..5).for_each(|place| change(case, place, by))));
         let corners = |case: &mut Case| {
-            LISTS[..2].iter().for_each(|change| change(case, by));
-            LISTS[2..5].iter().for_each(|change| change(case, 2 * by));
+            (0..2).for_each(|place| change(case, place, by));
+            (2..5).for_each(|place| change(case, place, 2 * by));
         };
         cases.push(sound.with(corners));
     }

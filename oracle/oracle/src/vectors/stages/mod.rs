@@ -8,7 +8,6 @@ mod class_lists;
 mod class_numbers;
 mod drawn;
 mod lengths;
-mod meshes;
 mod order;
 mod pairs;
 mod quad_shapes;

@@ -1,9 +1,8 @@
 // Faults of every row, for the order in which the rows are tried.
 
-use super::meshes::strip;
-use super::rows::crowd;
 use super::{Case, Kind};
 use crate::vectors::faults::{self, Fault};
+use crate::vectors::meshes::{crowd, strip};
 
 /// Faults with their rows. Row 5 has two: a corner, and a class, which the classes call lacks.
 const FAULTS: [(u32, Fault<Case>); 10] = [

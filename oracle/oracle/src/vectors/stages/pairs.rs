@@ -1,7 +1,7 @@
 // Many pairs of triangles over the same four corners, in one case.
 
-use super::meshes::mesh;
 use super::Case;
+use crate::vectors::meshes::mesh;
 
 /// How a pair is laid: its corners (the first triangle's three, then the new one), the side of
 /// the first triangle that they share, and how far the second is turned.

@@ -1,10 +1,10 @@
 // Quads: the order of the four corners over points of every kind, and all classes of a pair.
 
 use super::class_axes::FALLEN;
-use super::meshes::SQUARE;
 use super::pairs::{case_of, orders, Pair};
 use super::Case;
 use crate::random::Random;
+use crate::vectors::meshes::SQUARE;
 
 type Points = [(f32, f32); 4];
 

@@ -1,8 +1,8 @@
 // Row 9: the room of the quad list, which is the number of whole records of four words.
 
-use super::meshes::{square, strip};
 use super::Case;
 use crate::vectors::form::untouched;
+use crate::vectors::meshes::{square, strip};
 use crate::vectors::Vector;
 
 /// Every length from nothing to more than two records over, for one quad and for three.

@@ -1,51 +1,9 @@
 // Row 7: twins that are out of range, do not point back, or run between other corners.
 
-use super::meshes::{mesh, strip, SQUARE};
 use super::Case;
-use crate::vectors::Vector;
+use crate::vectors::meshes::{mesh, SQUARE};
+use crate::vectors::{twin_rows, Vector};
 use frame::{Frame, NONE};
-
-/// A strip has 12 half-edges. Twins: 2 with 3, 1 with 11, 8 with 9.
-fn sound() -> Case {
-    Case::quads_of(strip(2))
-}
-
-fn single_words(cases: &mut Vec<Case>) {
-    for e in [0, 1, 2, 3, 8, 11] {
-        for word in [e, (e + 1) % 12, (e + 5) % 12, 11, 12, 13, NONE - 1, NONE] {
-            cases.push(sound().with(|case| case.frame.twins[e as usize] = word));
-        }
-    }
-}
-
-/// Some words at once: half-edge and its twin.
-const CHANGES: [&[(usize, u32)]; 14] = [
-    &[(2, NONE), (3, NONE)],
-    &[(2, NONE), (3, NONE), (8, NONE), (9, NONE), (1, NONE), (11, NONE)],
-    &[(0, 4), (4, 0)],
-    &[(0, 1), (1, 0)],
-    &[(0, 2), (2, 0), (3, NONE)],
-    &[(2, 8), (8, 2), (3, NONE), (9, NONE)],
-    &[(2, 9), (9, 2), (3, 8), (8, 3)],
-    &[(0, 4), (4, 5), (5, 0)],
-    &[(5, 99), (7, 7), (10, 0)],
-    &[(10, 0), (7, 7)],
-    &[(10, 12), (4, 10)],
-    &[(11, 2), (6, NONE - 1)],
-    &[(3, 2), (2, NONE), (11, 11)],
-    &[(0, 12), (1, 12), (2, 12)],
-];
-
-fn several_words(cases: &mut Vec<Case>) {
-    for change in CHANGES {
-        cases.push(sound().with(|case| {
-            change.iter().for_each(|&(e, word)| case.frame.twins[e] = word);
-        }));
-    }
-    cases.push(sound().with(|case| case.frame.twins.fill(NONE)));
-    cases.push(sound().with(|case| case.frame.twins.fill(0)));
-    cases.push(sound().with(|case| case.frame.twins.fill(12)));
-}
 
 /// Two triangles over four corners with chosen twins, their classes as for one quad.
 fn two(triangles: [[u32; 3]; 2], twins: [(usize, usize); 1]) -> Case {
@@ -84,8 +42,11 @@ fn folded_flat(cases: &mut Vec<Case>) {
 }
 
 pub fn add(cases: &mut Vec<Case>) {
-    single_words(cases);
-    several_words(cases);
+    let mut quads = |sound: &Frame, changed: Frame| {
+        cases.push(Case::quads_of(sound.clone()).with(|case| case.frame = changed));
+    };
+    twin_rows::single_words(&mut quads);
+    twin_rows::several_words(&mut quads);
     all_links(cases);
     folded_flat(cases);
 }

@@ -1,0 +1,14 @@
+pub mod Reading
+pub mod Around
+pub mod Facing
+pub mod Turning
+pub mod Counts
+pub mod Settling
+pub mod Resting
+pub mod Flagged
+pub mod Stepping
+pub mod Parts
+pub mod Once
+pub mod Seeds
+pub mod Ended
+pub mod Wiping

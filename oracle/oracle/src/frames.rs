@@ -1,0 +1,105 @@
+// Frames for long comparisons of the whole call. `drawn(seed, i)` is frame number i of a run with
+// the lists it lends; `expected(&case)` is what the call must tell and leave, the stages between,
+// and the unchanged Rust's answer with whether document 01 owes equality with it.
+
+use std::collections::HashSet;
+
+use crate::calls::{answer_frame, judge_frame};
+use crate::compare::frame_of;
+use crate::generate::{torus, KINDS};
+use crate::judge::{judge, MOST_CORNERS};
+use crate::near::{scope, Scope};
+use crate::random::Random;
+use crate::told::Told;
+use crate::vectors::frames::{lend, Case};
+use frame::{Component, Stages};
+
+/// A frame of a run, with the name of its kind, "damaged" among them.
+#[derive(Clone, Debug)]
+pub struct Drawn {
+    pub kind: &'static str,
+    pub case: Case,
+}
+
+/// The stages of a frame that rows 1 to 7 let pass, as words of lists.
+#[derive(Clone, Debug, PartialEq, Eq)]
+pub struct Between {
+    /// A class for each half-edge.
+    pub classes: Vec<u32>,
+    /// Four corners for each quad made.
+    pub quads: Vec<u32>,
+    /// For each quad made 0 where it is kept, or the number of the filter that drops it.
+    pub marks: Vec<u32>,
+}
+
+/// What the unchanged Rust gives, and the two readings of "no near case occurs".
+#[derive(Clone, Debug)]
+pub struct Unchanged {
+    pub between: Between,
+    pub told: Told<2, 3>,
+    pub scope: Scope,
+}
+
+/// All that is expected of a case. The stages are those of frames that rows 1 to 7 let pass,
+/// whatever the lists that are lent.
+#[derive(Clone, Debug)]
+pub struct Expected {
+    pub told: Told<2, 3>,
+    pub between: Option<Between>,
+    pub unchanged: Option<Unchanged>,
+}
+
+/// One frame in so many has as many corners and half-edges as the limits allow.
+const FULL: usize = 500;
+
+/// Frame number `number` of a run: all kinds in turn, of many sizes, the last of each turn damaged;
+/// workspace and room mostly enough, at times short.
+pub fn drawn(seed: u64, number: usize) -> Drawn {
+    let mut random = Random::part(!seed, number as u64);
+    let (kind, frame) = if number % FULL == FULL - 1 {
+        ("torus", torus(MOST_CORNERS, &mut random))
+    } else {
+        let (place, frame, _) = frame_of(seed, number);
+        (KINDS.get(place).map_or("damaged", |kind| kind.0), frame)
+    };
+    Drawn { kind, case: lend(frame, &mut random) }
+}
+
+/// Equal quads meet the same fate, so that a quad is kept where its words are.
+fn marks(stages: &Stages) -> Vec<u32> {
+    let kept: [HashSet<&[u32; 4]>; 3] =
+        [&stages.topology, &stages.geometry, &stages.scale].map(|list| list.iter().collect());
+    let dropped_by = |quad| kept.iter().position(|kept| !kept.contains(quad));
+    stages.quads.iter().map(|quad| dropped_by(quad).map_or(0, |place| place as u32 + 1)).collect()
+}
+
+impl Between {
+    fn of(stages: &Stages) -> Between {
+        let (classes, quads) = (stages.classes.clone(), stages.quads.concat());
+        Between { classes, quads, marks: marks(stages) }
+    }
+}
+
+/// What the call tells and leaves where a run found these components.
+fn told(case: &Case, found: &[Component]) -> Told<2, 3> {
+    Told::by(case.lent(), |[work, components, entries]| match judge_frame(&case.frame, work) {
+        Some(refusal) => Err(refusal),
+        None => answer_frame(found, work, components, entries),
+    })
+}
+
+/// Runs both builds on a case.
+pub fn expected(case: &Case) -> Expected {
+    let frame = &case.frame;
+    if judge(frame).is_some() {
+        return Expected { told: told(case, &[]), between: None, unchanged: None };
+    }
+    let (ruled, plain) = (ruled::run(frame), plain::run(frame));
+    let unchanged = Unchanged {
+        between: Between::of(&plain),
+        told: told(case, &plain.components),
+        scope: scope(frame, &plain),
+    };
+    let between = Some(Between::of(&ruled));
+    Expected { told: told(case, &ruled.components), between, unchanged: Some(unchanged) }
+}

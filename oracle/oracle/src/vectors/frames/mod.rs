@@ -1,0 +1,44 @@
+// Vectors for the whole frame's call.
+
+mod case;
+mod drawn;
+mod full;
+mod lend;
+mod lengths;
+mod order;
+mod params;
+mod room;
+mod rows;
+mod shapes;
+mod summary;
+mod work;
+
+pub use case::Case;
+pub use lend::lend;
+pub use shapes::{holed, noisy, square_grid};
+pub use summary::Summary;
+
+use super::pack::{write_cases, Written};
+use super::vector::gathered;
+use std::io;
+use std::path::Path;
+
+/// All cases, those chosen by hand before the drawn ones.
+pub fn frame_cases() -> Vec<Case> {
+    gathered(&[
+        lengths::add,
+        rows::add,
+        params::add,
+        order::add,
+        work::add,
+        room::add,
+        shapes::add,
+        full::add,
+        drawn::add,
+    ])
+}
+
+/// Writes everything into a folder and says what was written.
+pub fn write_frames(folder: &Path) -> io::Result<Written<Summary>> {
+    write_cases(folder, &frame_cases())
+}

@@ -1,0 +1,33 @@
+// Faults of every row, for the order in which the rows are tried.
+
+use super::Case;
+use crate::vectors::faults::{self, Fault};
+use crate::vectors::meshes::{crowd, strip};
+use frame::NONE;
+
+/// Faults in order of their rows; rows 1, 2 and 3 have two. The strip has one component of eight
+/// entries.
+const FAULTS: [Fault<Case>; 13] = [
+    |case| case.frame.y.truncate(case.frame.y.len() - 1),
+    |case| case.frame.triangles.truncate(case.frame.triangles.len() - 1),
+    |case| crowd(&mut case.frame, 4_097),
+    |case| {
+        case.frame.triangles.resize(24_579, 0);
+        case.frame.twins.resize(24_579, NONE);
+    },
+    |case| case.frame.params.tolerance = f32::NAN,
+    |case| case.frame.params.spread_limit = f32::NAN,
+    |case| case.frame.x[2] = f32::NEG_INFINITY,
+    |case| case.frame.triangles[10] = 70_000,
+    |case| case.frame.triangles[4] = case.frame.triangles[3],
+    |case| case.frame.twins[0] = 0,
+    |case| case.work.truncate(415),
+    |case| case.components.truncate(2),
+    |case| case.entries.truncate(23),
+];
+
+pub fn add(cases: &mut Vec<Case>) {
+    let sound = Case::of(strip(3));
+    cases.push(sound.clone());
+    faults::add(cases, &sound, &FAULTS);
+}

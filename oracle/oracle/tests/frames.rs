@@ -1,0 +1,47 @@
+// Frames for long comparisons: all kinds come, and what is expected of them hangs together.
+
+use oracle::compare::first_difference;
+use oracle::frames::{drawn, expected, Between};
+use oracle::judge::judge;
+use oracle::vectors::Vector;
+use std::collections::BTreeMap;
+
+/// The quads of the marks that say kept.
+fn kept(between: &Between) -> Vec<[u32; 4]> {
+    let quads = between.quads.chunks_exact(4).zip(&between.marks);
+    quads.filter(|(_, &mark)| mark == 0).map(|(quad, _)| quad.try_into().unwrap()).collect()
+}
+
+#[test]
+fn what_is_expected() {
+    let (mut kinds, mut rows) = (BTreeMap::<&str, usize>::new(), BTreeMap::<u32, usize>::new());
+    let (mut marks, mut most) = ([0; 4], [0; 2]);
+    for number in 0..1_000 {
+        let frame = drawn(7, number);
+        *kinds.entry(frame.kind).or_default() += 1;
+        let found = expected(&frame.case);
+        assert_eq!(found.told, frame.case.answer(), "frame {number}");
+        if let Err(refusal) = found.told.result {
+            *rows.entry(refusal.row).or_default() += 1;
+        }
+        assert_eq!(found.between.is_some(), judge(&frame.case.frame).is_none());
+        let Some(between) = found.between else {
+            continue;
+        };
+        let size = [frame.case.frame.corners(), frame.case.frame.half_edges()];
+        most = [most[0].max(size[0]), most[1].max(size[1])];
+        between.marks.iter().for_each(|&mark| marks[mark as usize] += 1);
+        let stages = ruled::run(&frame.case.frame);
+        assert_eq!(kept(&between), stages.scale, "frame {number}");
+        let unchanged = found.unchanged.unwrap();
+        let parted = first_difference(&stages, &plain::run(&frame.case.frame));
+        if parted.is_none() || unchanged.scope.narrow {
+            assert_eq!(found.told.parted(&unchanged.told), None, "frame {number}");
+            assert_eq!(between, unchanged.between);
+        }
+    }
+    assert_eq!(kinds.len(), 17);
+    assert_eq!(most, [4_096, 24_576]);
+    assert!(rows.keys().copied().eq(1..=10), "{rows:?}");
+    assert!(marks.iter().all(|&count| count > 100), "{marks:?}");
+}
