@@ -1,0 +1,9 @@
+pub mod Fields
+pub mod Rows
+pub mod Taking
+pub mod Runs
+pub mod Parsing
+pub mod Outcomes
+pub mod OneLine
+pub mod OneReading
+pub mod Example

@@ -1,0 +1,207 @@
+-- A line as its fields one after the other: where some of them have been taken from a text, the rest of the line stands behind them, and with
+-- the rest the whole line is had. Assumes nothing.
+use mathlib.Core.Path.{_≡_, refl, sym, ap, _∙_}
+use mathlib.Core.List.{List, [], _∷_, _++_, append-assoc, append-nil}
+use Prim.Native.Nat.{ℕ, zero, suc, _+_, _≤_}
+use native.Mathlib.Omega.{arith}
+use lib.ListN.{length, drop}
+use Rattle.digits.specs.declared.End.{End}
+use Rattle.gridtext.specs.declared.inner.row.Kind.{Kind}
+use Rattle.gridtext.specs.declared.inner.row.Sort.{Sort}
+use Rattle.gridtext.specs.Lines.{Field, Line, fieldOf, spaced, lineOf, WordField, LineWords}
+use Rattle.gridtext.specs.Rows.{letterOf, kindsOf, endAfter, formOf, Allowed, spreadWords, wordOf, wordsOf}
+use Rattle.gridtext.specs.Read.{paramWords, cornerWords, triangleWords, lineWords, sortOf, Of}
+use Rattle.gridtext.proofs.Fields.{one-field}
+
+-- ---- fields of kinds
+
+pub data Fits : List Kind → List Field → Type 0 where
+  none : Fits [] []
+  more : {k : Kind} {ks : List Kind} {f : Field} {fs : List Field} → Allowed k f → Fits ks fs → Fits (k ∷ ks) (f ∷ fs)
+
+-- a line from its first field on, and what follows it
+unfoldable pub rowOf : List Kind → List Field → List ℕ → List ℕ
+rowOf (k ∷ ks) (f ∷ fs) rest = formOf k f ++ (endAfter (length ks) ∷ rowOf ks fs rest)
+rowOf (k ∷ ks) [] rest = rest
+rowOf [] fs rest = rest
+
+-- the words of the fields
+unfoldable pub rowWords : List Kind → List Field → List ℕ
+rowWords (k ∷ ks) (f ∷ fs) = wordsOf k f ++ rowWords ks fs
+rowWords (k ∷ ks) [] = []
+rowWords [] fs = []
+
+-- how many words fields of these kinds give
+unfoldable pub placesOf : Kind → ℕ
+placesOf Kind.Hex = 1
+placesOf Kind.Decimal = 1
+placesOf Kind.Spread = 2
+placesOf Kind.Twin = 1
+
+unfoldable pub total : List Kind → ℕ
+total [] = 0
+total (k ∷ ks) = placesOf k + total ks
+
+pub words-places : (k : Kind) (f : Field) → length (wordsOf k f) ≡ placesOf k
+unfolding wordsOf placesOf spreadWords
+words-places Kind.Hex f = refl
+words-places Kind.Decimal f = refl
+words-places Kind.Spread Field.minus = refl
+words-places Kind.Spread (Field.word v) = refl
+words-places Kind.Twin f = refl
+
+pub total-few : (sort : Sort) → total (kindsOf sort) ≤ 8
+unfolding total placesOf
+total-few Sort.Params = omega arith
+total-few Sort.Corner = omega arith
+total-few Sort.Triangle = omega arith
+
+pub one-of-row : (k : Kind) (n : ℕ) (f g : Field) (r s : List ℕ) → Allowed k f → Allowed k g → formOf k f ++ (endAfter n ∷ r) ≡ formOf k g ++ (endAfter n ∷ s) → (f ≡ g) × (r ≡ s)
+one-of-row k zero = one-field k End.Feed
+one-of-row k (suc n) = one-field k End.Blank
+
+-- ---- fields taken one by one
+
+-- from the fields of the kinds ks₀ at at₀ on, those have been taken that leave the kinds ks at next; they gave the words
+pub data Got (text : List ℕ) (ks₀ : List Kind) (at₀ : ℕ) : List Kind → ℕ → List ℕ → Type 0 where
+  start : Got text ks₀ at₀ ks₀ at₀ []
+  more : {k : Kind} {ks : List Kind} {at next : ℕ} {words : List ℕ} {f : Field}
+      → Got text ks₀ at₀ (k ∷ ks) at words
+      → Allowed k f
+      → drop at text ≡ formOf k f ++ (endAfter (length ks) ∷ drop next text)
+      → Got text ks₀ at₀ ks next (words ++ wordsOf k f)
+
+-- a row stands at a place, with its rest behind it
+pub record RowAt (text : List ℕ) (ks : List Kind) (at : ℕ) (rest : List ℕ) : Type 0 where
+  pub fields : List Field
+  pub fits : Fits ks fields
+  pub is : drop at text ≡ rowOf ks fields rest
+
+row-less : {text : List ℕ} {k : Kind} {ks : List Kind} {at : ℕ} {rest : List ℕ} {f : Field} (next : ℕ) → RowAt text (k ∷ ks) at rest → Allowed k f → drop at text ≡ formOf k f ++ (endAfter (length ks) ∷ drop next text) → RowAt text ks next rest
+unfolding rowOf
+row-less {text} {k} {ks} {at} {rest} {f} next row b is = go (row .fields) (row .fits) (row .is)
+  where
+    go : (fs : List Field) → Fits (k ∷ ks) fs → drop at text ≡ rowOf (k ∷ ks) fs rest → RowAt text ks next rest
+    go (g ∷ gs) (Fits.more a fits) e =
+        record { fields = gs; fits = fits; is = one-of-row k (length ks) f g (drop next text) (rowOf ks gs rest) b a (sym is ∙ e) .1 }
+
+pub row-left : {text : List ℕ} {ks₀ ks : List Kind} {at₀ at : ℕ} {words rest : List ℕ} → Got text ks₀ at₀ ks at words → RowAt text ks₀ at₀ rest → RowAt text ks at rest
+row-left Got.start row = row
+row-left (Got.more {next} g a is) row = row-less next (row-left g row) a is
+
+-- the first field of a row
+pub record First (text : List ℕ) (k : Kind) (others at : ℕ) : Type 0 where
+  pub field : Field
+  pub allowed : Allowed k field
+  pub after : List ℕ
+  pub is : drop at text ≡ formOf k field ++ (endAfter others ∷ after)
+
+pub row-first : {text : List ℕ} {k : Kind} {ks : List Kind} {at : ℕ} {rest : List ℕ} → RowAt text (k ∷ ks) at rest → First text k (length ks) at
+unfolding rowOf
+row-first {text} {k} {ks} {at} {rest} row = go (row .fields) (row .fits) (row .is)
+  where
+    go : (fs : List Field) → Fits (k ∷ ks) fs → drop at text ≡ rowOf (k ∷ ks) fs rest → First text k (length ks) at
+    go (f ∷ fs) (Fits.more a fits) e = record { field = f; allowed = a; after = rowOf ks fs rest; is = e }
+
+-- with a row that stands behind them, they are a row
+pub record Whole (text : List ℕ) (ks₀ : List Kind) (at₀ : ℕ) (rest words : List ℕ) : Type 0 where
+  pub fields : List Field
+  pub fits : Fits ks₀ fields
+  pub is : drop at₀ text ≡ rowOf ks₀ fields rest
+  pub gave : rowWords ks₀ fields ≡ words
+
+pub whole : {text : List ℕ} {ks₀ ks : List Kind} {at₀ at : ℕ} {words rest : List ℕ} → Got text ks₀ at₀ ks at words → (fs : List Field) → Fits ks fs → drop at text ≡ rowOf ks fs rest → Whole text ks₀ at₀ rest (words ++ rowWords ks fs)
+unfolding rowOf rowWords
+whole Got.start fs fits is = record { fields = fs; fits = fits; is = is; gave = refl }
+whole {rest = rest} (Got.more {k} {ks} {at} {next} {words} {f} g a e) fs fits is =
+    rw append-assoc (whole g (f ∷ fs) (Fits.more a fits) (e ∙ ap (λ (l : List ℕ). formOf k f ++ (endAfter (length ks) ∷ l)) is))
+
+-- ---- a line's row
+
+unfoldable pub fieldsOf : Line → List Field
+fieldsOf (Line.params p) =
+    Field.word (p .tolerance) ∷ Field.word (p .ratio) ∷ Field.word (p .least) ∷ Field.word (p .greatest) ∷ Field.word (p .limit) ∷ Field.word (p .quads)
+    ∷ Field.word (p .corners) ∷ []
+fieldsOf (Line.corner c) = Field.word (c .x) ∷ Field.word (c .y) ∷ Field.word (c .angle0) ∷ c .spread0 ∷ Field.word (c .angle1) ∷ c .spread1 ∷ []
+fieldsOf (Line.triangle t) = Field.word (t .a) ∷ Field.word (t .b) ∷ Field.word (t .c) ∷ t .twin0 ∷ t .twin1 ∷ t .twin2 ∷ []
+
+spread-allowed : {f : Field} → WordField f → Allowed Kind.Spread f
+spread-allowed WordField.minus = Allowed.spread
+spread-allowed (WordField.word w) = Allowed.word w
+
+twin-allowed : {f : Field} → WordField f → Allowed Kind.Twin f
+twin-allowed WordField.minus = Allowed.twin
+twin-allowed (WordField.word w) = Allowed.word w
+
+allowed-word : {k : Kind} {f : Field} → Allowed k f → WordField f
+allowed-word (Allowed.word w) = WordField.word w
+allowed-word Allowed.spread = WordField.minus
+allowed-word Allowed.twin = WordField.minus
+
+pub row-fits : {l : Line} → LineWords l → Fits (kindsOf (sortOf l)) (fieldsOf l)
+unfolding sortOf fieldsOf
+row-fits (LineWords.params w) =
+    Fits.more (Allowed.word (w .tolerance)) (Fits.more (Allowed.word (w .ratio)) (Fits.more (Allowed.word (w .least))
+    (Fits.more (Allowed.word (w .greatest)) (Fits.more (Allowed.word (w .limit)) (Fits.more (Allowed.word (w .quads)) (Fits.more (Allowed.word (w .corners)) Fits.none))))))
+row-fits (LineWords.corner w) =
+    Fits.more (Allowed.word (w .x)) (Fits.more (Allowed.word (w .y)) (Fits.more (Allowed.word (w .angle0))
+    (Fits.more (spread-allowed (w .spread0)) (Fits.more (Allowed.word (w .angle1)) (Fits.more (spread-allowed (w .spread1)) Fits.none)))))
+row-fits (LineWords.triangle w) =
+    Fits.more (Allowed.word (w .a)) (Fits.more (Allowed.word (w .b)) (Fits.more (Allowed.word (w .c))
+    (Fits.more (twin-allowed (w .twin0)) (Fits.more (twin-allowed (w .twin1)) (Fits.more (twin-allowed (w .twin2)) Fits.none)))))
+
+pub record LineOf (sort : Sort) (fs : List Field) : Type 0 where
+  pub line : Line
+  pub of : Of sort line
+  pub fields : fieldsOf line ≡ fs
+
+-- every row of a sort is a line's
+pub line-of : (sort : Sort) (fs : List Field) → Fits (kindsOf sort) fs → LineOf sort fs
+unfolding sortOf fieldsOf
+line-of Sort.Params _ (Fits.more (Allowed.word {v = a} p) (Fits.more (Allowed.word {v = b} q) (Fits.more (Allowed.word {v = c} r) (Fits.more (Allowed.word {v = d} s) (Fits.more (Allowed.word {v = e} t) (Fits.more (Allowed.word {v = f} u) (Fits.more (Allowed.word {v = g} w) Fits.none))))))) = record {
+  line = Line.params (record { tolerance = a; ratio = b; least = c; greatest = d; limit = e; quads = f; corners = g });
+  of = record { is = refl; words = LineWords.params (record { tolerance = p; ratio = q; least = r; greatest = s; limit = t; quads = u; corners = w }) };
+  fields = refl;
+}
+line-of Sort.Corner _ (Fits.more (Allowed.word {v = a} p) (Fits.more (Allowed.word {v = b} q) (Fits.more (Allowed.word {v = c} r) (Fits.more {f = d} s (Fits.more (Allowed.word {v = e} t) (Fits.more {f = f} u Fits.none)))))) = record {
+  line = Line.corner (record { x = a; y = b; angle0 = c; spread0 = d; angle1 = e; spread1 = f });
+  of = record { is = refl; words = LineWords.corner (record { x = p; y = q; angle0 = r; spread0 = allowed-word s; angle1 = t; spread1 = allowed-word u }) };
+  fields = refl;
+}
+line-of Sort.Triangle _ (Fits.more (Allowed.word {v = a} p) (Fits.more (Allowed.word {v = b} q) (Fits.more (Allowed.word {v = c} r) (Fits.more {f = d} s (Fits.more {f = e} t (Fits.more {f = f} u Fits.none)))))) = record {
+  line = Line.triangle (record { a = a; b = b; c = c; twin0 = d; twin1 = e; twin2 = f });
+  of = record { is = refl; words = LineWords.triangle (record { a = p; b = q; c = r; twin0 = allowed-word s; twin1 = allowed-word t; twin2 = allowed-word u }) };
+  fields = refl;
+}
+
+unfoldable formsOf : List Kind → List Field → List (List ℕ)
+formsOf (k ∷ ks) (f ∷ fs) = formOf k f ∷ formsOf ks fs
+formsOf (k ∷ ks) [] = []
+formsOf [] fs = []
+
+spaced-row : {ks : List Kind} {fs : List Field} → Fits ks fs → (rest : List ℕ) → spaced (formsOf ks fs) ++ (10 ∷ rest) ≡ endAfter (length ks) ∷ rowOf ks fs rest
+unfolding spaced formsOf rowOf
+spaced-row Fits.none rest = refl
+spaced-row (Fits.more {k} {ks} {f} {fs} a fits) rest = rw (append-assoc, spaced-row fits rest)
+
+line-forms : (l : Line) → lineOf l ≡ letterOf (sortOf l) ∷ spaced (formsOf (kindsOf (sortOf l)) (fieldsOf l))
+unfolding lineOf sortOf fieldsOf formsOf formOf fieldOf
+line-forms (Line.params p) = refl
+line-forms (Line.corner c) = refl
+line-forms (Line.triangle t) = refl
+
+blank-first : (sort : Sort) → endAfter (length (kindsOf sort)) ≡ 32
+blank-first Sort.Params = refl
+blank-first Sort.Corner = refl
+blank-first Sort.Triangle = refl
+
+-- a line is its letter, a blank and its row
+pub line-row : {sort : Sort} (l : Line) (rest : List ℕ) → Of sort l → lineOf l ++ (10 ∷ rest) ≡ letterOf sort ∷ 32 ∷ rowOf (kindsOf sort) (fieldsOf l) rest
+line-row l rest of =
+    ap (λ (x : List ℕ). x ++ (10 ∷ rest)) (line-forms l) ∙ rw (spaced-row (row-fits (of .words)) rest, blank-first (sortOf l), of .is)
+
+pub line-words : (l : Line) → lineWords l ≡ rowWords (kindsOf (sortOf l)) (fieldsOf l)
+unfolding lineWords paramWords cornerWords triangleWords sortOf fieldsOf rowWords wordsOf wordOf
+line-words (Line.params p) = refl
+line-words (Line.corner c) = rw append-nil
+line-words (Line.triangle t) = refl

@@ -1,0 +1,5 @@
+pub mod Lines
+pub mod Text
+pub mod Rows
+pub mod Read
+pub mod Answer

@@ -1,0 +1,161 @@
+// The sorts of line, and the fields of each: of which kind they are, and how a field of a kind is read.
+ghost use mathlib.Core.Path.{_≡_};
+ghost use Prim.Native.Nat.{_+_, _<_};
+ghost use lib.ListN.{length, getD};
+ghost use Rattle.digits.specs.Run.{endOf};
+ghost use Rattle.gridtext.specs.Rows.{letterOf, kindsOf, sizeOf, mostOf, foundOf, PairAt, FieldAt};
+use digits::End;
+use digits::Taken;
+
+pub enum Sort {
+    Params,
+    Corner,
+    Triangle,
+}
+
+pub enum Kind {
+    Hex,
+    Decimal,
+    Spread,
+    Twin,
+}
+
+// The words that a field gives: one, or a mark and a spread.
+pub enum Few {
+    One(u32),
+    Two(u32, u32),
+}
+
+// A field that was looked for: its words and where the text goes on.
+pub enum Found {
+    Nothing,
+    Words(Few, usize),
+}
+
+pub fn letter(sort: Sort) -> u8
+    ensures { λ r. ⌜ r ≡ letterOf sort ⌝ }
+{
+    match sort {
+        Sort::Params => b'P',
+        Sort::Corner => b'C',
+        Sort::Triangle => b'T',
+    }
+}
+
+// How many fields a line has.
+pub fn fields(sort: Sort) -> usize
+    ensures { λ r. ⌜ r ≡ length (kindsOf sort) ⌝ }
+{
+    match sort {
+        Sort::Params => 7,
+        Sort::Corner => 6,
+        Sort::Triangle => 6,
+    }
+}
+
+// How many words it gives.
+pub fn size(sort: Sort) -> usize
+    ensures { λ r. ⌜ r ≡ sizeOf sort ⌝ }
+{
+    match sort {
+        Sort::Params => 7,
+        Sort::Corner => 8,
+        Sort::Triangle => 6,
+    }
+}
+
+// How many such lines a text may have.
+pub fn most(sort: Sort) -> usize
+    ensures { λ r. ⌜ r ≡ mostOf sort ⌝ }
+{
+    match sort {
+        Sort::Params => 1,
+        Sort::Corner => 128,
+        Sort::Triangle => 256,
+    }
+}
+
+// The kind of field i.
+pub fn kind_at(sort: Sort, i: usize) -> Kind
+    requires { ⌜ i < length (kindsOf sort) ⌝ }
+    ensures { λ r. ⌜ r ≡ getD (kindsOf sort) i Kind.Hex ⌝ }
+{
+    match sort {
+        Sort::Params => if i < 5 { Kind::Hex } else { Kind::Decimal },
+        Sort::Corner => {
+            if i == 3 {
+                Kind::Spread
+            } else if i == 5 {
+                Kind::Spread
+            } else {
+                Kind::Hex
+            }
+        }
+        Sort::Triangle => if i < 3 { Kind::Decimal } else { Kind::Twin },
+    }
+}
+
+// Whether two bytes stand at `at`.
+pub fn pair_at(text: &[u8], at: usize, first: u8, second: u8) -> bool
+    ensures { λ r. ⌜ PairAt (now (text .entry)) at first second r ⌝ }
+{
+    if text.len() < 2 {
+        return false;
+    }
+    if text.len() - 2 < at {
+        return false;
+    }
+    if text[at] != first {
+        return false;
+    }
+    text[at + 1] == second
+}
+
+// A word as a field of one word, and as a spread with its mark.
+fn one(taken: Taken) -> Found
+    ensures { λ r. ⌜ r ≡ foundOf Few.One taken ⌝ }
+{
+    match taken {
+        Taken::Nothing => Found::Nothing,
+        Taken::Word(word, next) => Found::Words(Few::One(word), next),
+    }
+}
+
+fn two(taken: Taken) -> Found
+    ensures { λ r. ⌜ r ≡ foundOf (Few.Two 1) taken ⌝ }
+{
+    match taken {
+        Taken::Nothing => Found::Nothing,
+        Taken::Word(word, next) => Found::Words(Few::Two(1, word), next),
+    }
+}
+
+fn spread_at(text: &[u8], at: usize, end: End) -> Found
+    ensures { λ r. ⌜ FieldAt Kind.Spread (now (text .entry)) at (endOf end) r ⌝ }
+{
+    if pair_at(text, at, b'-', digits::byte(end)) {
+        return Found::Words(Few::Two(0, 0), at + 2);
+    }
+    two(digits::hex_at(text, at, end))
+}
+
+fn twin_at(text: &[u8], at: usize, end: End) -> Found
+    ensures { λ r. ⌜ FieldAt Kind.Twin (now (text .entry)) at (endOf end) r ⌝ }
+{
+    if pair_at(text, at, b'-', digits::byte(end)) {
+        return Found::Words(Few::One(4294967295), at + 2);
+    }
+    one(digits::decimal_at(text, at, end))
+}
+
+// A field of the kind from `at` on, then the end.
+pub fn field_at(text: &[u8], at: usize, kind: Kind, end: End) -> Found
+    ensures { λ r. ⌜ FieldAt kind (now (text .entry)) at (endOf end) r ⌝ }
+{
+    match kind {
+        Kind::Hex => one(digits::hex_at(text, at, end)),
+        Kind::Decimal => one(digits::decimal_at(text, at, end)),
+        Kind::Spread => spread_at(text, at, end),
+        Kind::Twin => twin_at(text, at, end),
+    }
+}
