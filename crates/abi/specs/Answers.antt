@@ -1,4 +1,5 @@
 -- An answer as numbers that cross the boundary to C.
+use mathlib.Core.Bool.{Bool, true, false}
 use mathlib.Core.List.{List}
 use mathlib.Core.Path.{_≡_}
 use Prim.Native.Nat.{ℕ}
@@ -8,6 +9,14 @@ use Rattle.measure.specs.declared.Measured.the-variants.{Known, Refused}
 use Rattle.measure.specs.declared.Distance.{Distance}
 use Rattle.measure.specs.declared.Distance.the-variants as distance
 use Rattle.refusal.specs.Table.{numberOf, placeOf}
+use Rattle.axis.specs.declared.Cached.{Cached}
+use Rattle.axis.specs.declared.Cached.the-variants as cached
+use Rattle.classify.specs.declared.Classified.{Classified}
+use Rattle.classify.specs.declared.Classified.the-variants as classified
+use Rattle.classify.specs.Call as edges
+use Rattle.quads.specs.declared.Merged.{Merged}
+use Rattle.quads.specs.declared.Merged.the-variants as merged
+use Rattle.quads.specs.Call as pairs
 use Rattle.filter.specs.declared.Filtered.{Filtered}
 use Rattle.filter.specs.declared.Filtered.the-variants as filtered
 use Rattle.filter.specs.Input.{Input}
@@ -18,6 +27,8 @@ use Rattle.walk.specs.Input as walk
 use Rattle.walk.specs.Call as walk-call
 use Rattle.abi.specs.declared.Number.{Number}
 use Rattle.abi.specs.declared.Apart.{Apart}
+use Rattle.abi.specs.declared.Cache.{Cache}
+use Rattle.abi.specs.declared.Verdict.{Verdict}
 use Rattle.abi.specs.declared.Count.{Count}
 use Rattle.abi.specs.declared.Counts.{Counts}
 
@@ -28,6 +39,40 @@ numberFrom (Refused why) = record { refused = numberOf why; place = placeOf why;
 abbrev pub apartFrom : Distance → Apart
 apartFrom (distance.Known x) = record { known = 1; value = x }
 apartFrom distance.Missing = record { known = 0; value = ofBits binary32 0 }
+
+abbrev pub wordFrom : Bool → ℕ
+wordFrom true = 1
+wordFrom false = 0
+
+abbrev pub cacheFrom : Cached → Cache
+cacheFrom (cached.Known c) =
+    record { refused = 0; place = 0; angle0 = c .angle0; informative0 = wordFrom (c .informative0); angle1 = c .angle1; informative1 = wordFrom (c .informative1) }
+cacheFrom (cached.Refused why) =
+    record { refused = numberOf why; place = placeOf why; angle0 = ofBits binary32 0; informative0 = 0; angle1 = ofBits binary32 0; informative1 = 0 }
+
+abbrev pub verdictFrom : Classified → Verdict
+verdictFrom classified.Done = record { refused = 0; place = 0 }
+verdictFrom (classified.Refused why) = record { refused = numberOf why; place = placeOf why }
+
+-- what is told of the classes, and the class list after
+pub record ClassesTold : Type 0 where
+  pub told : Verdict
+  pub classes : List ℕ
+
+abbrev pub classesTold : edges.Outcome → ClassesTold
+classesTold o = record { told = verdictFrom (o .answer); classes = o .classes }
+
+abbrev pub madeFrom : Merged → Count
+madeFrom (merged.Done n) = record { refused = 0; place = 0; count = n }
+madeFrom (merged.Refused why) = record { refused = numberOf why; place = placeOf why; count = 0 }
+
+-- what is told of the quads, and the quad list after
+pub record QuadsTold : Type 0 where
+  pub told : Count
+  pub quads : List ℕ
+
+abbrev pub quadsTold : pairs.Outcome → QuadsTold
+quadsTold o = record { told = madeFrom (o .answer); quads = o .quads }
 
 abbrev pub countFrom : Filtered → Count
 countFrom (filtered.Done n) = record { refused = 0; place = 0; count = n }

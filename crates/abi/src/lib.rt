@@ -1,15 +1,27 @@
 // What C and Rust link: each public call with answers that cross the boundary, fixed by the call's own definition.
+// For C each list is a pointer and the number of its elements.
 ghost use mathlib.Core.Path.{_≡_};
 ghost use Rattle.measure.specs.Angle.{angleOf};
 ghost use Rattle.measure.specs.Distance.{distanceOf};
 ghost use Rattle.measure.specs.RootComputed.{rootOf};
-ghost use Rattle.abi.specs.Answers.{numberFrom, apartFrom, countFrom, FilterTold, countsFrom, LabelTold};
+ghost use Rattle.axis.specs.Cache.{cacheCall, spreadFrom};
+ghost use Rattle.classify.specs.Call as edges;
+ghost use Rattle.quads.specs.Call as pairs;
+ghost use Rattle.abi.specs.Answers.{numberFrom, apartFrom, cacheFrom, ClassesTold, classesTold, QuadsTold, quadsTold, FilterTold, LabelTold};
+use axis::SpreadRule;
+use axis::inner::spread_from;
+use classify::EdgeParams;
 use fates::LabelParams;
 use filter::FilterParams;
-use filter::Filtered;
-use measure::Distance;
-use measure::Measured;
-use walk::Labelled;
+use tell::tell_cache;
+use tell::tell_classified;
+use tell::tell_distance;
+use tell::tell_filtered;
+use tell::tell_labelled;
+use tell::tell_merged;
+use tell::tell_number;
+
+mod tell;
 
 // refused is 0 beside a value; else it is the refusal's number, place its place, and value 0.
 #[repr(C)]
@@ -24,6 +36,25 @@ pub struct Number {
 pub struct Apart {
     pub known: u32,
     pub value: f32,
+}
+
+// refused is 0 beside a cache, in which an informative axis is told as 1, another as 0; else it is the refusal's number, place its place,
+// and all else 0.
+#[repr(C)]
+pub struct Cache {
+    pub refused: u32,
+    pub place: u32,
+    pub angle0: f32,
+    pub informative0: u32,
+    pub angle1: f32,
+    pub informative1: u32,
+}
+
+// refused is 0 where the call is done; else it is the refusal's number, and place its place.
+#[repr(C)]
+pub struct Verdict {
+    pub refused: u32,
+    pub place: u32,
 }
 
 // refused is 0 beside a count; else it is the refusal's number, place its place, and count 0.
@@ -41,71 +72,6 @@ pub struct Counts {
     pub place: u32,
     pub components: u32,
     pub entries: u32,
-}
-
-fn tell_number(answer: Measured) -> Number
-    ensures { λ r. ⌜ r ≡ numberFrom answer ⌝ }
-{
-    match answer {
-        Measured::Known(x) => Number {
-            refused: 0,
-            place: 0,
-            value: x,
-        },
-        Measured::Refused(why) => Number {
-            refused: refusal::number(why),
-            place: refusal::place(why),
-            value: 0.0,
-        },
-    }
-}
-
-fn tell_distance(answer: Distance) -> Apart
-    ensures { λ r. ⌜ r ≡ apartFrom answer ⌝ }
-{
-    match answer {
-        Distance::Known(x) => Apart { known: 1, value: x },
-        Distance::Missing => Apart {
-            known: 0,
-            value: 0.0,
-        },
-    }
-}
-
-fn tell_filtered(answer: Filtered) -> Count
-    ensures { λ r. ⌜ r ≡ countFrom answer ⌝ }
-{
-    match answer {
-        Filtered::Done(count) => Count {
-            refused: 0,
-            place: 0,
-            count,
-        },
-        Filtered::Refused(why) => Count {
-            refused: refusal::number(why),
-            place: refusal::place(why),
-            count: 0,
-        },
-    }
-}
-
-fn tell_labelled(answer: Labelled) -> Counts
-    ensures { λ r. ⌜ r ≡ countsFrom answer ⌝ }
-{
-    match answer {
-        Labelled::Done(components, entries) => Counts {
-            refused: 0,
-            place: 0,
-            components,
-            entries,
-        },
-        Labelled::Refused(why) => Counts {
-            refused: refusal::number(why),
-            place: refusal::place(why),
-            components: 0,
-            entries: 0,
-        },
-    }
 }
 
 #[no_mangle]
@@ -129,7 +95,70 @@ pub extern "C" fn ngeunsadok_distance(angle: f32, axis: f32) -> Apart
     tell_distance(measure::axis_distance(angle, axis))
 }
 
-// For C each list is a pointer and the number of its elements.
+// A mark of 0 says that the spread beside it is missing.
+#[no_mangle]
+pub extern "C" fn ngeunsadok_axis_cache(
+    angle0: f32,
+    marked0: u32,
+    spread0: f32,
+    angle1: f32,
+    marked1: u32,
+    spread1: f32,
+    limit: f32,
+) -> Cache
+    ensures { λ r. ⌜ r ≡ cacheFrom (cacheCall (record { limit = limit }) angle0 (spreadFrom marked0 spread0) angle1 (spreadFrom marked1 spread1)) ⌝ }
+{
+    let first = spread_from(marked0, spread0);
+    let second = spread_from(marked1, spread1);
+    tell_cache(axis::axis_cache(angle0, first, angle1, second, SpreadRule { limit }))
+}
+
+#[no_mangle]
+pub extern "C" fn ngeunsadok_classify_all_edges(
+    x: &[f32],
+    y: &[f32],
+    angles: &[f32],
+    marks: &[u32],
+    spreads: &[f32],
+    triangles: &[u32],
+    tolerance: f32,
+    limit: f32,
+    classes: &mut [u32],
+) -> Verdict
+    ensures { λ r. ⌜ _≡_ {A = ClassesTold} (record { told = r; classes = now (classes .exit) })
+        (classesTold (edges.callOf (record { xs = now (x .entry); ys = now (y .entry); angles = now (angles .entry); marks = now (marks .entry); spreads = now (spreads .entry); triangles = now (triangles .entry); params = record { tolerance = tolerance; spread = record { limit = limit } } }) (now (classes .entry)))) ⌝ }
+{
+    let params = EdgeParams {
+        tolerance,
+        spread: SpreadRule { limit },
+    };
+    tell_classified(classify::classify_all_edges(
+        x,
+        y,
+        angles,
+        marks,
+        spreads,
+        triangles,
+        params,
+        classes,
+    ))
+}
+
+#[no_mangle]
+pub extern "C" fn ngeunsadok_merge_triangle_pairs(
+    x: &[f32],
+    y: &[f32],
+    triangles: &[u32],
+    twins: &[u32],
+    classes: &[u32],
+    quads: &mut [u32],
+) -> Count
+    ensures { λ r. ⌜ _≡_ {A = QuadsTold} (record { told = r; quads = now (quads .exit) })
+        (quadsTold (pairs.callOf (record { xs = now (x .entry); ys = now (y .entry); mesh = record { triangles = now (triangles .entry); twins = now (twins .entry); classes = now (classes .entry) } }) (now (quads .entry)))) ⌝ }
+{
+    tell_merged(quads::merge_triangle_pairs(x, y, triangles, twins, classes, quads))
+}
+
 #[no_mangle]
 pub extern "C" fn ngeunsadok_filter_quads(
     x: &[f32],

@@ -34,7 +34,7 @@ pub fn cache_of(
 }
 
 // A spread of a lent list: the mark beside it is 0 for missing.
-fn spread_from(mark: u32, spread: f32) -> Spread
+pub fn spread_from(mark: u32, spread: f32) -> Spread
     ensures { λ r. ⌜ r ≡ spreadFrom mark spread ⌝ }
 {
     if mark == 0 {

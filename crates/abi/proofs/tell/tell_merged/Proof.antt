@@ -1,9 +1,9 @@
--- `tell_labelled` is `countsFrom`, arm by arm.
+-- `tell_merged` is `madeFrom`, arm by arm.
 use mathlib.Core.Path.{sym, ap}
-use Rattle.abi.specs.Answers.{countsFrom}
+use Rattle.abi.specs.Answers.{madeFrom}
 use borrow.Author.Needs.{needs}
-use Rattle.abi.proofs.tell_labelled.Statement.{statement}
-use Rattle.abi.proofs.tell_labelled.Tie as tie
+use Rattle.abi.proofs.tell.tell_merged.Statement.{statement}
+use Rattle.abi.proofs.tell.tell_merged.Tie as tie
 
 enum-known-answer : tie.Need-enum-known-answer
 enum-known-answer c = search needs
@@ -18,13 +18,13 @@ place-requires : tie.Need-place-requires
 place-requires c κs = search needs
 
 returns : tie.Need-returns
-returns c = ap countsFrom (sym (c .before .answer .given .1))
+returns c = ap madeFrom (sym (c .before .answer .given .1))
 
 returns-2 : tie.Need-returns-2
-returns-2 c = rw (c .place .ensures, c .before .number .ensures) (ap countsFrom (sym (c .before .before .before .answer2 .given .1)))
+returns-2 c = rw (c .place .ensures, c .before .number .ensures) (ap madeFrom (sym (c .before .before .before .answer2 .given .1)))
 
-pub tell-labelled-spec : {M : Type 1} → statement M
-tell-labelled-spec =
+pub tell-merged-spec : {M : Type 1} → statement M
+tell-merged-spec =
     tie.close
     (tie.spec
     enum-known-answer

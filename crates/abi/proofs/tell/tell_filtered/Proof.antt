@@ -1,9 +1,9 @@
--- `tell_number` is `numberFrom`, arm by arm.
+-- `tell_filtered` is `countFrom`, arm by arm.
 use mathlib.Core.Path.{sym, ap}
-use Rattle.abi.specs.Answers.{numberFrom}
+use Rattle.abi.specs.Answers.{countFrom}
 use borrow.Author.Needs.{needs}
-use Rattle.abi.proofs.tell_number.Statement.{statement}
-use Rattle.abi.proofs.tell_number.Tie as tie
+use Rattle.abi.proofs.tell.tell_filtered.Statement.{statement}
+use Rattle.abi.proofs.tell.tell_filtered.Tie as tie
 
 enum-known-answer : tie.Need-enum-known-answer
 enum-known-answer c = search needs
@@ -18,13 +18,13 @@ place-requires : tie.Need-place-requires
 place-requires c κs = search needs
 
 returns : tie.Need-returns
-returns c = ap numberFrom (sym (c .before .answer .given .1))
+returns c = ap countFrom (sym (c .before .answer .given .1))
 
 returns-2 : tie.Need-returns-2
-returns-2 c = rw (c .place .ensures, c .before .number .ensures) (ap numberFrom (sym (c .before .before .before .answer2 .given .1)))
+returns-2 c = rw (c .place .ensures, c .before .number .ensures) (ap countFrom (sym (c .before .before .before .answer2 .given .1)))
 
-pub tell-number-spec : {M : Type 1} → statement M
-tell-number-spec =
+pub tell-filtered-spec : {M : Type 1} → statement M
+tell-filtered-spec =
     tie.close
     (tie.spec
     enum-known-answer

@@ -2,8 +2,8 @@
 use mathlib.Core.Path.{sym, ap}
 use Rattle.abi.specs.Answers.{apartFrom}
 use borrow.Author.Needs.{needs}
-use Rattle.abi.proofs.tell_distance.Statement.{statement}
-use Rattle.abi.proofs.tell_distance.Tie as tie
+use Rattle.abi.proofs.tell.tell_distance.Statement.{statement}
+use Rattle.abi.proofs.tell.tell_distance.Tie as tie
 
 enum-known-answer : tie.Need-enum-known-answer
 enum-known-answer c = search needs

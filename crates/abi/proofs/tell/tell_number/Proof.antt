@@ -1,0 +1,35 @@
+-- `tell_number` is `numberFrom`, arm by arm.
+use mathlib.Core.Path.{sym, ap}
+use Rattle.abi.specs.Answers.{numberFrom}
+use borrow.Author.Needs.{needs}
+use Rattle.abi.proofs.tell.tell_number.Statement.{statement}
+use Rattle.abi.proofs.tell.tell_number.Tie as tie
+
+enum-known-answer : tie.Need-enum-known-answer
+enum-known-answer c = search needs
+
+enum-known-answer-2 : tie.Need-enum-known-answer-2
+enum-known-answer-2 c = search needs
+
+number-requires : tie.Need-number-requires
+number-requires c κs = search needs
+
+place-requires : tie.Need-place-requires
+place-requires c κs = search needs
+
+returns : tie.Need-returns
+returns c = ap numberFrom (sym (c .before .answer .given .1))
+
+returns-2 : tie.Need-returns-2
+returns-2 c = rw (c .place .ensures, c .before .number .ensures) (ap numberFrom (sym (c .before .before .before .answer2 .given .1)))
+
+pub tell-number-spec : {M : Type 1} → statement M
+tell-number-spec =
+    tie.close
+    (tie.spec
+    enum-known-answer
+    enum-known-answer-2
+    number-requires
+    place-requires
+    returns
+    returns-2)

@@ -1,0 +1,156 @@
+/* The calls of libabi.a for C99 and later. crates/abi/src/lib.rt declares the same calls with their contracts, which are proved for all
+ * inputs: every call ends, refuses exactly by the table below, and writes nothing but what is said here. This header is kept in step by
+ * hand; tools/try-c compiles it and makes one call of each kind.
+ *
+ * LINKING
+ * On x86-64 `rt staticlib abi` writes target/staticlib/libabi.a; `tools/native-archive abi OUT` writes one for this machine's processor.
+ * Then: cc -Iinclude program.c libabi.a -lm (for C's fmodf; the archive asks for nothing else, and has no state).
+ *
+ * LISTS
+ * A list is two arguments: a pointer to its first element, then the number of its elements (not bytes). What the proofs take for granted
+ * is what C cannot check: the pointer is aligned and not null, also where the number is 0, that many elements are there, and a list that
+ * a call may write shares no memory with another list of the same call.
+ *
+ *   x, y        one float a corner; corners are numbered from 0
+ *   angles      two floats a corner, slot 0 then slot 1: corner k has elements 2k and 2k + 1; any float, NaN too
+ *   marks       two words a corner in the same slots: 0 says that the spread in that slot is missing, any other that it is there
+ *   spreads     two floats a corner in the same slots; not looked at where the mark is 0
+ *   triangles   three corners a triangle; element e is the corner that half-edge e runs from, to the corner of the next one: e + 1, or
+ *               e - 2 where e leaves 2 on division by 3; half-edge e belongs to triangle e / 3
+ *   twins       one half-edge for each half-edge: the one that runs the other way, or NGEUNSADOK_NO_TWIN
+ *   classes     one class for each half-edge: 0 Spurious, 1 Grid, 2 Diagonal
+ *   quads       four corners a quad, in order round it
+ *   components  three words a component: the entries before its own, how many are its own, its holes
+ *   entries     three words an entry: u, v, corner; a component's stand together, in order of u, then v
+ *   work        the workspace, lent for the call
+ *
+ * Room in a list that is only written (quads out, components, entries) is the number of whole records that fit; one more word or two is
+ * no fault. The answer fills the front of such a list, and the rest stays as it was.
+ *
+ * REFUSALS
+ * refused is 0 on success. Else it is the number of the first row that applies, of those that the call has, place is its place, and every
+ * other field of the answer is 0.
+ *
+ *   1  paired lists differ in length (x, y, axes at two slots a corner; triangles, twins, classes), or a list of triangles or quads is
+ *      not whole; place 0
+ *   2  a count is over its limit: 4,096 corners, 24,576 half-edges, 4,096 quads; place 0
+ *   3  a parameter is NaN; place: tolerance 0, ratio 1, least 2, greatest 3, spread limit 4
+ *   4  a position is not finite or above 1,048,576 in magnitude; place: the corner. For the angle, a difference that is not finite or above
+ *      2,097,152 in magnitude; for the root, a value NaN, infinite or below zero; place 0
+ *   5  a triangle or quad names a corner that does not exist, or else a class read is above 2; place: the position in its list
+ *   6  a triangle or quad names a corner twice; place: the triangle or quad
+ *   7  a twin is neither NGEUNSADOK_NO_TWIN nor a half-edge, its own twin is not this half-edge, or it does not run between the same
+ *      corners the other way; place: the half-edge
+ *   8  the workspace is too short; place: the words wanted
+ *   9  the component list, or the quad list, has less room than the answer has records; place: the records wanted
+ *  10  the entry list has less room than the answer has entries; place: the entries wanted
+ *
+ * Every refusal leaves the lists that are written untouched. Success and the refusals 9 and 10 leave the whole workspace zero; every
+ * other refusal leaves it untouched. It need not be zero before a call.
+ */
+#ifndef NGEUNSADOK_H
+#define NGEUNSADOK_H
+
+#include <stddef.h>
+#include <stdint.h>
+
+#ifdef __cplusplus
+extern "C" {
+#endif
+
+#define NGEUNSADOK_NO_TWIN UINT32_C(4294967295)
+
+#define NGEUNSADOK_MOST_CORNERS 4096
+#define NGEUNSADOK_MOST_HALF_EDGES 24576
+#define NGEUNSADOK_MOST_QUADS 4096
+
+/* The words of workspace that the filters and the labelling ask for, each with the number of its input quads. */
+#define NGEUNSADOK_QUAD_WORK(quads, corners) (32 * (size_t)(quads) + 16 * (size_t)(corners))
+
+typedef struct {
+    uint32_t refused;
+    uint32_t place;
+    float value;
+} ngeunsadok_number;
+
+/* known is 1 beside a value, else 0. */
+typedef struct {
+    uint32_t known;
+    float value;
+} ngeunsadok_apart;
+
+/* An informative axis has 1, another 0. */
+typedef struct {
+    uint32_t refused;
+    uint32_t place;
+    float angle0;
+    uint32_t informative0;
+    float angle1;
+    uint32_t informative1;
+} ngeunsadok_cache;
+
+typedef struct {
+    uint32_t refused;
+    uint32_t place;
+} ngeunsadok_verdict;
+
+typedef struct {
+    uint32_t refused;
+    uint32_t place;
+    uint32_t count;
+} ngeunsadok_count;
+
+typedef struct {
+    uint32_t refused;
+    uint32_t place;
+    uint32_t components;
+    uint32_t entries;
+} ngeunsadok_counts;
+
+/* The IEEE 754 square root. Row 4. */
+ngeunsadok_number ngeunsadok_root(float x);
+
+/* The angle of (dx, dy), in radians from -pi to pi, by the port's own rule and not by the machine's atan2. Row 4. */
+ngeunsadok_number ngeunsadok_angle(float dx, float dy);
+
+/* The distance of an angle from an axis, which has no direction: from 0 to pi/2, or none where it is not finite. No rows. */
+ngeunsadok_apart ngeunsadok_distance(float angle, float axis);
+
+/* The axis cache of one corner: its two angles, and for each whether it is informative, that is, whether its spread is missing (marked is
+ * 0) or finite and below the limit. Row 3. */
+ngeunsadok_cache ngeunsadok_axis_cache(float angle0, uint32_t marked0, float spread0, float angle1, uint32_t marked1, float spread1,
+                                       float limit);
+
+/* The class of every half-edge into classes, which has as many elements as triangles. Rows 1 to 6. */
+ngeunsadok_verdict ngeunsadok_classify_all_edges(const float *x, size_t x_count, const float *y, size_t y_count, const float *angles,
+                                                 size_t angle_count, const uint32_t *marks, size_t mark_count, const float *spreads,
+                                                 size_t spread_count, const uint32_t *triangles, size_t triangle_words, float tolerance,
+                                                 float limit, uint32_t *classes, size_t class_count);
+
+/* A quad for each pair of triangles that meet at the only diagonal of both; count is how many. There are at most half as many as
+ * triangles. Rows 1, 2, 4 to 7 and 9. */
+ngeunsadok_count ngeunsadok_merge_triangle_pairs(const float *x, size_t x_count, const float *y, size_t y_count,
+                                                 const uint32_t *triangles, size_t triangle_words, const uint32_t *twins,
+                                                 size_t twin_count, const uint32_t *classes, size_t class_count, uint32_t *quads,
+                                                 size_t quad_words);
+
+/* The quads that pass three filters, in their order, into kept; count is how many. ratio is the greatest that opposing sides may have,
+ * least and greatest are lengths relative to the median of the quad's group. The workspace has NGEUNSADOK_QUAD_WORK words or more. Rows
+ * 1 to 6, 8 and 9. */
+ngeunsadok_count ngeunsadok_filter_quads(const float *x, size_t x_count, const float *y, size_t y_count, const uint32_t *quads,
+                                         size_t quad_words, float ratio, float least, float greatest, uint32_t *work, size_t work_words,
+                                         uint32_t *kept, size_t kept_words);
+
+/* The components of the quads, by their lowest quads, and the entries of all. corners is how many corners there are. A group of quads
+ * becomes a component where it has leastquads quads, a labelling, and leastcorners corners that stand alone on their places. There are
+ * at most as many components as quads, and four entries for each quad. The workspace has NGEUNSADOK_QUAD_WORK words or more. Rows 1, 2, 5,
+ * 6, 8, 9 and 10. */
+ngeunsadok_counts ngeunsadok_label_components(const uint32_t *quads, size_t quad_words, uint32_t corners, uint32_t leastquads,
+                                              uint32_t leastcorners, uint32_t *work, size_t work_words, uint32_t *components,
+                                              size_t component_words, uint32_t *entries, size_t entry_words);
+
+#ifdef __cplusplus
+}
+#endif
+
+#endif

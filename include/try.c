@@ -1,0 +1,108 @@
+/* One call of each kind through ngeunsadok.h, with answers that document 01 gives. tools/try-c compiles, links and runs it; it ends with
+ * status 0 and one line where all answers are right, else it names the line of each wrong one. */
+#include "ngeunsadok.h"
+
+#include <stdio.h>
+#include <string.h>
+
+static int wrong = 0;
+
+#define EXPECT(truth)                                        \
+    do {                                                     \
+        if (!(truth)) {                                      \
+            printf("try.c:%d: not so: %s\n", __LINE__, #truth); \
+            wrong = 1;                                       \
+        }                                                    \
+    } while (0)
+
+static uint32_t bits(float value) {
+    uint32_t word;
+    memcpy(&word, &value, sizeof word);
+    return word;
+}
+
+static float from_bits(uint32_t word) {
+    float value;
+    memcpy(&value, &word, sizeof value);
+    return value;
+}
+
+static void numbers(void) {
+    ngeunsadok_number root = ngeunsadok_root(2.0f);
+    EXPECT(root.refused == 0 && bits(root.value) == 0x3FB504F3);
+    root = ngeunsadok_root(-1.0f);
+    EXPECT(root.refused == 4 && root.place == 0 && root.value == 0.0f);
+    ngeunsadok_number angle = ngeunsadok_angle(-10.0f, 0.0f);
+    EXPECT(angle.refused == 0 && bits(angle.value) == 0x40490FDB);
+    ngeunsadok_apart apart = ngeunsadok_distance(1.0f, 0.75f);
+    EXPECT(apart.known == 1 && apart.value == 0.25f);
+    EXPECT(ngeunsadok_distance(from_bits(0x7F800000), 0.0f).known == 0);
+}
+
+static void axis(void) {
+    ngeunsadok_cache cache = ngeunsadok_axis_cache(0.5f, 0, 9.0f, 1.5f, 1, 1.0f, 1.0f);
+    EXPECT(cache.refused == 0 && cache.angle0 == 0.5f && cache.informative0 == 1);
+    EXPECT(cache.angle1 == 1.5f && cache.informative1 == 0);
+    cache = ngeunsadok_axis_cache(0.5f, 0, 0.0f, 1.5f, 0, 0.0f, from_bits(0x7FC00000));
+    EXPECT(cache.refused == 3 && cache.place == 4 && cache.angle0 == 0.0f && cache.informative0 == 0);
+}
+
+/* The frame of document 01's example: a square of four corners in two triangles. 77 stands in a list before a call. */
+#define NONE NGEUNSADOK_NO_TWIN
+static const float x[4] = {0, 10, 10, 0}, y[4] = {0, 0, 10, 10};
+static const uint32_t triangles[6] = {0, 1, 2, 0, 2, 3}, twins[6] = {NONE, NONE, 3, 2, NONE, NONE};
+static const uint32_t square[6] = {0, 1, 2, 3, 77, 77};
+
+static void stages(void) {
+    const uint32_t marks[8] = {0, 0, 0, 0, 0, 0, 0, 0}, wanted[6] = {1, 1, 2, 2, 1, 1};
+    const float spreads[8] = {0, 0, 0, 0, 0, 0, 0, 0}, up = from_bits(0x3FC90FDB);
+    const float angles[8] = {0, up, 0, up, 0, up, 0, up};
+    uint32_t classes[6] = {77, 77, 77, 77, 77, 77}, quads[6] = {77, 77, 77, 77, 77, 77};
+
+    ngeunsadok_verdict verdict;
+    verdict = ngeunsadok_classify_all_edges(x, 4, y, 3, angles, 8, marks, 8, spreads, 8, triangles, 6, 0.25f, 1, classes, 6);
+    EXPECT(verdict.refused == 1 && verdict.place == 0 && classes[0] == 77);
+    verdict = ngeunsadok_classify_all_edges(x, 4, y, 4, angles, 8, marks, 8, spreads, 8, triangles, 6, 0.25f, 1, classes, 6);
+    EXPECT(verdict.refused == 0 && memcmp(classes, wanted, sizeof classes) == 0);
+
+    ngeunsadok_count count = ngeunsadok_merge_triangle_pairs(x, 4, y, 4, triangles, 6, twins, 6, classes, 6, quads, 3);
+    EXPECT(count.refused == 9 && count.place == 1 && count.count == 0 && quads[0] == 77);
+    count = ngeunsadok_merge_triangle_pairs(x, 4, y, 4, triangles, 6, twins, 6, classes, 6, quads, 6);
+    EXPECT(count.refused == 0 && count.count == 1 && memcmp(quads, square, sizeof quads) == 0);
+}
+
+static void filters(void) {
+    uint32_t kept[6] = {77, 77, 77, 77, 77, 77}, work[NGEUNSADOK_QUAD_WORK(1, 4)];
+
+    memset(work, 0xFF, sizeof work);
+    ngeunsadok_count count = ngeunsadok_filter_quads(x, 4, y, 4, square, 4, 1.5f, 0.5f, 2, work, 95, kept, 6);
+    EXPECT(count.refused == 8 && count.place == 96 && work[0] == 0xFFFFFFFF && kept[0] == 77);
+    count = ngeunsadok_filter_quads(x, 4, y, 4, square, 4, 1.5f, 0.5f, 2, work, 96, kept, 6);
+    EXPECT(count.refused == 0 && count.count == 1 && memcmp(kept, square, sizeof kept) == 0);
+    EXPECT(work[0] == 0 && work[95] == 0);
+}
+
+static void labels(void) {
+    const uint32_t wanted[13] = {0, 0, 0, 0, 1, 3, 1, 0, 1, 1, 1, 2, 77};
+    uint32_t components[4] = {77, 77, 77, 77}, entries[13], work[NGEUNSADOK_QUAD_WORK(1, 4)];
+    size_t i;
+
+    memset(work, 0xFF, sizeof work);
+    for (i = 0; i < 13; i++) entries[i] = 77;
+    ngeunsadok_counts counts = ngeunsadok_label_components(square, 4, 4, 1, 4, work, 96, components, 4, entries, 11);
+    EXPECT(counts.refused == 10 && counts.place == 4 && components[0] == 77 && entries[0] == 77 && work[0] == 0);
+    counts = ngeunsadok_label_components(square, 4, 4, 1, 4, work, 96, components, 4, entries, 13);
+    EXPECT(counts.refused == 0 && counts.components == 1 && counts.entries == 4);
+    EXPECT(components[0] == 0 && components[1] == 4 && components[2] == 0 && components[3] == 77);
+    EXPECT(memcmp(entries, wanted, sizeof entries) == 0);
+}
+
+int main(void) {
+    numbers();
+    axis();
+    stages();
+    filters();
+    labels();
+    if (!wrong) puts("C: every call answers as document 01 says");
+    return wrong;
+}

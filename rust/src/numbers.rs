@@ -1,0 +1,58 @@
+//! Root, angle, distance, and the axis cache of one corner.
+
+use crate::raw;
+use crate::refusal::{told, Refusal};
+
+/// The IEEE 754 square root, nearest, ties to even. Refuses a value that is NaN, infinite or below zero.
+pub fn root(x: f32) -> Result<f32, Refusal> {
+    // SAFETY: numbers alone cross the boundary.
+    let root = unsafe { raw::ngeunsadok_root(x) };
+    told(root.refused, root.place, root.value)
+}
+
+/// The angle of (dx, dy) in radians, by document 01's rule. Refuses a difference that is not finite or above 2,097,152 in magnitude.
+pub fn angle(dx: f32, dy: f32) -> Result<f32, Refusal> {
+    // SAFETY: numbers alone cross the boundary.
+    let angle = unsafe { raw::ngeunsadok_angle(dx, dy) };
+    told(angle.refused, angle.place, angle.value)
+}
+
+/// The distance of an angle from an axis, which has no direction; none where it is not finite.
+pub fn axis_distance(angle: f32, axis: f32) -> Option<f32> {
+    // SAFETY: numbers alone cross the boundary.
+    let apart = unsafe { raw::ngeunsadok_distance(angle, axis) };
+    (apart.known == 1).then_some(apart.value)
+}
+
+/// An axis of a corner: its angle, and its spread where there is one.
+#[derive(Clone, Copy, Debug, PartialEq)]
+pub struct Axis {
+    pub angle: f32,
+    pub spread: Option<f32>,
+}
+
+/// A corner's two angles, and whether each is informative.
+#[derive(Clone, Copy, Debug, PartialEq)]
+pub struct AxisCache {
+    pub angles: [f32; 2],
+    pub informative: [bool; 2],
+}
+
+/// The axis cache of one corner. A missing spread is informative, another where it is finite and below the limit.
+pub fn axis_cache(axes: [Axis; 2], limit: f32) -> Result<AxisCache, Refusal> {
+    let [first, second] = axes;
+    // SAFETY: numbers alone cross the boundary.
+    let cache = unsafe {
+        raw::ngeunsadok_axis_cache(
+            first.angle,
+            first.spread.is_some().into(),
+            first.spread.unwrap_or(0.0),
+            second.angle,
+            second.spread.is_some().into(),
+            second.spread.unwrap_or(0.0),
+            limit,
+        )
+    };
+    let informative = [cache.informative0 == 1, cache.informative1 == 1];
+    told(cache.refused, cache.place, AxisCache { angles: [cache.angle0, cache.angle1], informative })
+}

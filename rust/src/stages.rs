@@ -1,0 +1,95 @@
+//! From a triangulation to quads: the classes of half-edges, and the quads of triangle pairs.
+
+use crate::raw;
+use crate::refusal::{told, Refusal};
+
+/// The mark of a half-edge without a twin.
+pub const NO_TWIN: u32 = u32::MAX;
+
+/// Four corners in order round a quad.
+pub type Quad = [u32; 4];
+
+/// Where the corners are: as many y as x.
+#[derive(Clone, Copy, Debug)]
+pub struct Positions<'a> {
+    pub x: &'a [f32],
+    pub y: &'a [f32],
+}
+
+/// The axes of the corners: two slots a corner in each list. A mark of 0 says that the spread in its slot is missing.
+#[derive(Clone, Copy, Debug)]
+pub struct Axes<'a> {
+    pub angles: &'a [f32],
+    pub marks: &'a [u32],
+    pub spreads: &'a [f32],
+}
+
+/// The tolerance of a match, and the limit below which a spread is informative.
+#[derive(Clone, Copy, Debug, PartialEq)]
+pub struct EdgeParams {
+    pub tolerance: f32,
+    pub limit: f32,
+}
+
+/// The half-edges: the corner that each runs from, its twin or [`NO_TWIN`], its class (0 Spurious, 1 Grid, 2 Diagonal).
+#[derive(Clone, Copy, Debug)]
+pub struct Mesh<'a> {
+    pub triangles: &'a [u32],
+    pub twins: &'a [u32],
+    pub classes: &'a [u32],
+}
+
+/// Writes the class of every half-edge into `classes`, which is as long as `triangles`.
+pub fn classify_all_edges(
+    corners: Positions,
+    axes: Axes,
+    triangles: &[u32],
+    params: EdgeParams,
+    classes: &mut [u32],
+) -> Result<(), Refusal> {
+    // SAFETY: each pointer comes with the length of its slice, and no other slice shares the one that is written.
+    let verdict = unsafe {
+        raw::ngeunsadok_classify_all_edges(
+            corners.x.as_ptr(),
+            corners.x.len(),
+            corners.y.as_ptr(),
+            corners.y.len(),
+            axes.angles.as_ptr(),
+            axes.angles.len(),
+            axes.marks.as_ptr(),
+            axes.marks.len(),
+            axes.spreads.as_ptr(),
+            axes.spreads.len(),
+            triangles.as_ptr(),
+            triangles.len(),
+            params.tolerance,
+            params.limit,
+            classes.as_mut_ptr(),
+            classes.len(),
+        )
+    };
+    told(verdict.refused, verdict.place, ())
+}
+
+/// Writes the quads of the triangle pairs to the front of `quads`, and answers how many. There are at most half as many as triangles.
+pub fn merge_triangle_pairs(corners: Positions, mesh: Mesh, quads: &mut [Quad]) -> Result<usize, Refusal> {
+    let quads = quads.as_flattened_mut();
+    // SAFETY: each pointer comes with the length of its slice, and no other slice shares the one that is written.
+    let count = unsafe {
+        raw::ngeunsadok_merge_triangle_pairs(
+            corners.x.as_ptr(),
+            corners.x.len(),
+            corners.y.as_ptr(),
+            corners.y.len(),
+            mesh.triangles.as_ptr(),
+            mesh.triangles.len(),
+            mesh.twins.as_ptr(),
+            mesh.twins.len(),
+            mesh.classes.as_ptr(),
+            mesh.classes.len(),
+            quads.as_mut_ptr(),
+            quads.len(),
+        )
+    };
+    told(count.refused, count.place, count.count as usize)
+}

@@ -1,0 +1,103 @@
+// What the calls answer: document 01's numbers, its examples of labelling, and its frame from triangles to entries.
+
+use ngeunsadok::*;
+
+/// The frame of document 01: a square of four corners in two triangles.
+const X: [f32; 4] = [0.0, 10.0, 10.0, 0.0];
+const Y: [f32; 4] = [0.0, 0.0, 10.0, 10.0];
+const TRIANGLES: [u32; 6] = [0, 1, 2, 0, 2, 3];
+const TWINS: [u32; 6] = [NO_TWIN, NO_TWIN, 3, 2, NO_TWIN, NO_TWIN];
+const CORNERS: Positions = Positions { x: &X, y: &Y };
+
+/// What stands in a list before a call, to be found again past the answer.
+const REST: u32 = 77;
+
+#[test]
+fn numbers_of_document_01() {
+    for (x, bits) in [(2.0, 0x3FB504F3), (100.0, 10f32.to_bits()), (f32::from_bits(1), 0x1A3504F3)] {
+        assert_eq!(root(x).map(f32::to_bits), Ok(bits));
+    }
+    for (dx, dy, bits) in [(10.0, 10.0, 0x3F490FDB), (0.0, 10.0, 0x3FC90FDB), (-10.0, 0.0, 0x40490FDB), (0.0, 0.0, 0)] {
+        assert_eq!(angle(dx, dy).map(f32::to_bits), Ok(bits));
+    }
+    assert_eq!(axis_distance(1.0, 0.75), Some(0.25));
+    assert_eq!(axis_distance(f32::INFINITY, 0.0), None);
+}
+
+#[test]
+fn an_axis_without_a_spread_is_informative() {
+    let axes = [Axis { angle: 0.5, spread: None }, Axis { angle: 1.5, spread: Some(1.0) }];
+    let cache = AxisCache { angles: [0.5, 1.5], informative: [true, false] };
+    assert_eq!(axis_cache(axes, 1.0), Ok(cache));
+    assert_eq!(axis_cache(axes, 1.5), Ok(AxisCache { informative: [true, true], ..cache }));
+}
+
+#[test]
+fn the_square_from_triangles_to_entries() {
+    let angles = [0.0, std::f32::consts::FRAC_PI_2].repeat(4);
+    let axes = Axes { angles: &angles, marks: &[0; 8], spreads: &[0.0; 8] };
+    let mut classes = [REST; 6];
+    let params = EdgeParams { tolerance: 0.25, limit: 1.0 };
+    assert_eq!(classify_all_edges(CORNERS, axes, &TRIANGLES, params, &mut classes), Ok(()));
+    assert_eq!(classes, [1, 1, 2, 2, 1, 1]);
+
+    let mesh = Mesh { triangles: &TRIANGLES, twins: &TWINS, classes: &classes };
+    let mut quads = [[REST; 4]; 2];
+    assert_eq!(merge_triangle_pairs(CORNERS, mesh, &mut quads), Ok(1));
+    assert_eq!(quads, [[0, 1, 2, 3], [REST; 4]]);
+
+    let mut work = vec![REST; quad_work(1, 4)];
+    let mut kept = [[REST; 4]; 2];
+    let params = FilterParams { ratio: 1.5, least: 0.5, greatest: 2.0 };
+    assert_eq!(filter_quads(CORNERS, &quads[..1], params, &mut work, &mut kept), Ok(1));
+    assert_eq!(kept, [[0, 1, 2, 3], [REST; 4]]);
+    assert!(work.iter().all(|&word| word == 0));
+
+    let rest = Entry { u: REST, v: REST, corner: REST };
+    let mut components = [Component { before: REST, entries: REST, holes: REST }; 2];
+    let mut entries = [rest; 5];
+    let params = LabelParams { quads: 1, corners: 4 };
+    let counts = label_components(&kept[..1], 4, params, &mut work, &mut components, &mut entries);
+    assert_eq!(counts, Ok(Counts { components: 1, entries: 4 }));
+    assert_eq!(components[0], Component { before: 0, entries: 4, holes: 0 });
+    assert_eq!(components[1].holes, REST);
+    let entry = |u, v, corner| Entry { u, v, corner };
+    assert_eq!(entries, [entry(0, 0, 0), entry(0, 1, 3), entry(1, 0, 1), entry(1, 1, 2), rest]);
+}
+
+/// The components of quads over ten corners, and their entries.
+fn labelled(quads: &[Quad], params: LabelParams) -> (Vec<Component>, Vec<Entry>) {
+    let mut work = vec![REST; quad_work(quads.len(), 10)];
+    let mut components = vec![Component::default(); quads.len()];
+    let mut entries = vec![Entry::default(); 4 * quads.len()];
+    let counts = label_components(quads, 10, params, &mut work, &mut components, &mut entries).expect("no refusal");
+    components.truncate(counts.components);
+    entries.truncate(counts.entries);
+    (components, entries)
+}
+
+#[test]
+fn labels_of_document_01() {
+    let any = LabelParams { quads: 1, corners: 1 };
+    let (_, entries) = labelled(&[[0, 1, 2, 3], [1, 4, 5, 2]], any);
+    assert!(entries.contains(&Entry { u: 2, v: 0, corner: 4 }) && entries.contains(&Entry { u: 2, v: 1, corner: 5 }));
+    assert_eq!(labelled(&[[0, 1, 2, 3], [1, 2, 5, 4]], any).1.len(), 4);
+    assert_eq!(labelled(&[[0, 1, 2, 3], [0, 3, 4, 5], [0, 5, 6, 1]], any), (vec![], vec![]));
+
+    let round = [[0, 1, 2, 3], [0, 3, 4, 5], [0, 5, 6, 7], [0, 7, 8, 9]];
+    let (components, entries) = labelled(&round, LabelParams { quads: 4, corners: 8 });
+    assert_eq!(components, [Component { before: 0, entries: 8, holes: 1 }]);
+    assert!(entries.contains(&Entry { u: 0, v: 0, corner: 6 }) && entries.contains(&Entry { u: 1, v: 1, corner: 0 }));
+    assert_eq!(labelled(&round, LabelParams { quads: 4, corners: 9 }).0, []);
+    assert_eq!(labelled(&round, LabelParams { quads: 5, corners: 8 }).0, []);
+}
+
+#[test]
+fn lists_without_elements_are_lists() {
+    let nothing = Positions { x: &[], y: &[] };
+    let mesh = Mesh { triangles: &[], twins: &[], classes: &[] };
+    assert_eq!(merge_triangle_pairs(nothing, mesh, &mut []), Ok(0));
+    let params = LabelParams { quads: 1, corners: 1 };
+    let counts = label_components(&[], 0, params, &mut [], &mut [], &mut []);
+    assert_eq!(counts, Ok(Counts { components: 0, entries: 0 }));
+}
