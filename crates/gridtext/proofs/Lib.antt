@@ -7,3 +7,7 @@ pub mod Outcomes
 pub mod OneLine
 pub mod OneReading
 pub mod Example
+pub mod Printing
+pub mod Joining
+pub mod Reading
+pub mod Bounds

@@ -3,3 +3,5 @@ pub mod Text
 pub mod Rows
 pub mod Read
 pub mod Answer
+pub mod Printed
+pub mod Held

@@ -1,4 +1,5 @@
-// The reader of a text, for a caller that lends lists with room for the most lines that a text may have.
+// The reader of a text, for a caller that lends lists with room for the most lines that a text may have; and, in `print`, the answer as
+// text.
 ghost use mathlib.Core.Path.{_≡_};
 ghost use mathlib.Core.List.{[], _∷_};
 ghost use Prim.Native.Nat.{_≤_};
@@ -14,6 +15,7 @@ use row::Sort;
 
 pub mod line;
 pub mod lines;
+pub mod print;
 pub mod row;
 
 // The parameters whose words the list begins with.

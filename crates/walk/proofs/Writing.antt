@@ -21,7 +21,7 @@ use Rattle.walk.proofs.Pasting.{front-more, pasted-more}
 
 -- ---- words
 
-length-entry-words : (es : List Entry) → length (entryWords es) ≡ 3 * length es
+pub length-entry-words : (es : List Entry) → length (entryWords es) ≡ 3 * length es
 unfolding entryWords
 length-entry-words [] = refl
 length-entry-words (e ∷ es) = rw (length-entry-words es) (omega arith)
@@ -31,7 +31,7 @@ unfolding entryWords
 entry-words-append [] fs = refl
 entry-words-append (e ∷ es) fs = ap (λ (l : List ℕ). e .u ∷ e .v ∷ e .corner ∷ l) (entry-words-append es fs)
 
-length-component-words : (before : ℕ) (out : List (List Entry)) → length (componentWords before out) ≡ 3 * length out
+pub length-component-words : (before : ℕ) (out : List (List Entry)) → length (componentWords before out) ≡ 3 * length out
 unfolding componentWords
 length-component-words before [] = refl
 length-component-words before (es ∷ out) = rw (length-component-words (before + length es) out) (omega arith)
