@@ -12,7 +12,7 @@ use Rattle.classify.specs.Match.{offered, nearer, matchOf, sideOf, judge
 use Rattle.classify.specs.Classes.{Input, axesAt, angleBetween, sideAt, judgedAt, classAt, classesOf}
 
 -- four corners of a square with axes along its sides, in two triangles
-pub frame : Float → Input
+unfoldable pub frame : Float → Input
 frame tolerance =
     record {
       xs = bits 0 ∷ bits 0x41200000 ∷ bits 0x41200000 ∷ bits 0 ∷ [];

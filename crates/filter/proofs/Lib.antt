@@ -16,7 +16,6 @@ pub mod Kept
 pub mod Outcomes
 pub mod Picked
 pub mod Determined
-pub mod Examples
 pub mod Worked
 pub mod Single
 pub mod Row

@@ -1,6 +1,7 @@
 -- The call on one square is as listed, by computation. Assumes nothing.
 use mathlib.Core.Path.{_≡_, refl, subst}
 use mathlib.Core.Bool.{true}
+use mathlib.Core.List.{[], _∷_}
 use Prim.Native.Nat.{ℕ, _<_}
 use native.Mathlib.Nat.{le-refl}
 use native.Mathlib.Omega.{arith}
@@ -25,7 +26,7 @@ use Rattle.filter.specs.Topology.{incidence, illegal, crowded}
 use Rattle.filter.specs.Opposing.{greaterOf, lesserOf, raised, ratioOf, uneven, skewed}
 use Rattle.filter.specs.Median.{less, upTo, Median}
 use Rattle.filter.specs.Size.{hasLeast, hasGreatest, isSkipped, offSide, offSize, sidesTo}
-use Rattle.filter.specs.Marks.{markBy, left, Joined, keptTo, keptOf}
+use Rattle.filter.specs.Marks.{markBy, left, Joined, Marked, keptTo, keptOf}
 use Rattle.filter.specs.Marks.Marked.{sized}
 use Rattle.filter.specs.Call.{lengthsGate, paramsGate, valuesGate, gateOf, entryGate}
 use Rattle.filter.specs.Call.Allowed.{refused, judged}
@@ -41,8 +42,11 @@ ten = record { at = 0; at-lt = lit< tt; is = refl; before = lit≤ tt; after = l
 median : (q : ℕ) → q < 1 → left square q ≡ true → Median (sidesTo square (λ (q : ℕ). q) q 1) (fraction 10 1)
 median q h l = let z : 0 ≡ q = omega arith in subst (λ (g : ℕ). Median (sidesTo square (λ (q : ℕ). q) g 1) (fraction 10 1)) z ten
 
+-- the square has the mark 0: kept
+pub marked : Marked square (0 ∷ [])
+unfolding ofBits round add sub mul div lt eq le listing one equal sigOf expOf units unitsOf greatest reaches rootPattern rootOf orZero lengthOf some lengthBetween sideOf incidence illegal crowded greaterOf lesserOf raised ratioOf uneven skewed hasLeast hasGreatest isSkipped offSide offSize markBy
+marked = sized refl (λ (q : ℕ). q) alone (λ (g : ℕ). fraction 10 1) median
+
 pub single : Single
-unfolding ofBits round add sub mul div lt eq le isNan firstOf refuseFirst listing one equal within sigOf expOf units unitsOf greatest reaches rootPattern rootOf orZero lengthOf misplaced positionsRow notBelow cornersRow some namesTwice twiceRow wordsOf lengthBetween sideOf incidence illegal crowded greaterOf lesserOf raised ratioOf uneven skewed hasLeast hasGreatest isSkipped offSide offSize markBy keptTo keptOf lengthsGate paramsGate valuesGate gateOf entryGate
-single =
-    let marks = sized refl (λ (q : ℕ). q) alone (λ (g : ℕ). fraction 10 1) median in
-    record { kept = judged refl _ marks; no-room = judged refl _ marks; no-workspace = refused _ refl }
+unfolding ofBits round le isNan firstOf refuseFirst within misplaced positionsRow notBelow cornersRow some namesTwice twiceRow wordsOf keptTo keptOf lengthsGate paramsGate valuesGate gateOf entryGate
+single = record { kept = judged refl _ marked; no-room = judged refl _ marked; no-workspace = refused _ refl }

@@ -7,7 +7,6 @@ pub mod Marks
 pub mod Call
 pub mod Layout
 pub mod Steps
-pub mod Examples
 pub mod Worked
 pub mod Picked
 pub mod Single

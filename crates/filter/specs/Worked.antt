@@ -12,11 +12,18 @@ use Rattle.filter.specs.Median.{Median}
 use Rattle.filter.specs.Opposing.{ratioOf, uneven}
 use Rattle.filter.specs.Size.{isSkipped, offSize}
 use Rattle.filter.specs.Topology.{crowded}
-use Rattle.filter.specs.Examples.{five, pairs}
+
+-- five quads round corner 0
+abbrev pub five : List ℕ
+five = 0 ∷ 1 ∷ 2 ∷ 3 ∷ 0 ∷ 3 ∷ 4 ∷ 5 ∷ 0 ∷ 5 ∷ 6 ∷ 7 ∷ 0 ∷ 7 ∷ 8 ∷ 9 ∷ 0 ∷ 9 ∷ 10 ∷ 1 ∷ []
 
 -- five quads that have corners 0 and 1 in common, and a sixth that has corner 0 of them
 abbrev pub fan : List ℕ
 fan = 0 ∷ 1 ∷ 2 ∷ 3 ∷ 0 ∷ 1 ∷ 4 ∷ 5 ∷ 0 ∷ 1 ∷ 6 ∷ 7 ∷ 0 ∷ 1 ∷ 8 ∷ 9 ∷ 0 ∷ 1 ∷ 10 ∷ 11 ∷ 0 ∷ 3 ∷ 12 ∷ 11 ∷ []
+
+-- sides of two lengths, two of each
+abbrev pub pairs : List Float
+pairs = fraction 1 1 ∷ fraction 1 1 ∷ fraction 2 1 ∷ fraction 2 1 ∷ []
 
 -- the lengths of a quad's sides in order
 abbrev pub sides : Float → Float → Float → Float → ℕ → Float

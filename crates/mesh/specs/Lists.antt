@@ -37,3 +37,7 @@ workRow words wanted = refuseIf (ltb words wanted) (WorkspaceShort wanted)
 -- what filters alone and labelling alone want
 abbrev pub quadWords : ℕ → ℕ → ℕ
 quadWords quads corners = 32 * quads + 16 * corners
+
+-- what a whole frame wants
+abbrev pub frameWords : ℕ → ℕ → ℕ
+frameWords half-edges corners = 16 * (half-edges + corners)

@@ -19,7 +19,7 @@ use Rattle.quads.specs.Merge.{Input, pairedBy, pairedAcross, pairedAt, q
 use Rattle.quads.specs.Call.{wordsOf}
 
 -- four corners of a square in two triangles, the last of them at this height, with these classes
-pub frame : Float → List ℕ → Input
+unfoldable pub frame : Float → List ℕ → Input
 frame height classes =
     record {
       xs = bits 0 ∷ bits 0x41200000 ∷ bits 0x41200000 ∷ bits 0 ∷ [];

@@ -5,10 +5,9 @@ use mathlib.Core.List.{List}
 use Prim.Native.Nat.{ℕ, zero, suc, _≤_, _<_}
 use native.Mathlib.Omega.{arith}
 use lib.ListN.{length}
-use Rattle.refusal.specs.declared.Gate.{Gate}
-use Rattle.refusal.specs.declared.Gate.the-variants.{Open, Shut}
 use Rattle.refusal.specs.declared.Refusal.{Refusal}
 use Rattle.refusal.specs.Rows.{_then_}
+use Rattle.refusal.proofs.Rows.{shut-open, one-why}
 use Rattle.words.specs.Sorting.{equal}
 use Rattle.cells.specs.Kind.{Pair, Kind}
 use Rattle.cells.specs.Quads.{quads}
@@ -65,16 +64,10 @@ pub components-under : (i : Input) (out : List (List Entry)) (number : ℕ → �
 components-under i out number G a =
     components-same quads (i .quads) (quadCount i) (i .params .quads) (i .params .corners) (a .number) number (λ q l. one-answer (a .groups) G l) (quadCount i) out (omega arith) (a .components)
 
-one-out : (i : Input) (out other : List (List Entry)) → Answer i out → Answer i other → out ≡ other
+pub one-out : (i : Input) (out other : List (List Entry)) → Answer i out → Answer i other → out ≡ other
 one-out i out other a b = components-determined quads (i .quads) (grouping i (b .number)) quad-laws (components-under i out (b .number) (b .groups) a) (b .components)
 
 -- ---- the outcome
-
-shut-open : (g : Gate) (why : Refusal) → g ≡ Shut why → g ≡ Open → ⊥
-shut-open g why e f = let z : _≡_ {A = ℕ} 0 1 = cc in omega arith
-
-one-why : (g : Gate) (why other : Refusal) → g ≡ Shut why → g ≡ Shut other → why ≡ other
-one-why g why other e f = let z : Shut why ≡ Shut other = sym e ∙ f in cc
 
 pub determined : (i : Input) (work components entries : List ℕ) (o p : Outcome) → Allowed i work components entries o → Allowed i work components entries p → o ≡ p
 determined i work components entries o p (refused why e) (refused other f) =

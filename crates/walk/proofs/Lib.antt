@@ -15,5 +15,6 @@ pub mod Reasons
 pub mod ByFate
 pub mod Demand
 pub mod Sound
+pub mod Rooms
 pub mod Outcomes
 pub mod Single

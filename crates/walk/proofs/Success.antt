@@ -25,7 +25,7 @@ pub record Success (i : Input) (o : Outcome) (k l : ℕ) : Type 0 where
   pub rest : List ℕ
   pub entries : o .entries ≡ entryWords (allEntries out) ++ rest
 
-refused-done : (why : Refusal) (k l : ℕ) → Refused why ≡ Done k l → ⊥
+pub refused-done : (why : Refusal) (k l : ℕ) → Refused why ≡ Done k l → ⊥
 refused-done why k l e = let z : _≡_ {A = ℕ} 0 1 = cc in omega arith
 
 same-done : (m n k l : ℕ) → Done m n ≡ Done k l → (k ≡ m) × (l ≡ n)

@@ -1,16 +1,16 @@
-// The labelling of quads: each group that is kept becomes a component, which lists its lone corners. `label_components` is the call.
+// The labelling of quads: each group that is kept becomes a component, which lists its lone corners. `label_components` is the call;
+// `inner` has what follows the labelling, for other calls that label.
 ghost use Rattle.walk.specs.Call.{Allowed};
-use emit::count_out;
-use emit::write_out;
 use fates::LabelParams;
 use fates::inner::compute;
 use fates::inner::span_of;
+use inner::write_components;
 use refusal::Gate;
 use refusal::Refusal;
-use words::inner::fill_zero;
 
 mod emit;
 mod gate;
+pub mod inner;
 
 // How many components and entries were written, or why none were.
 pub enum Labelled {
@@ -36,16 +36,5 @@ pub fn label_components(
     let n = quads.len() / 4;
     let span = span_of(n, corners as usize);
     compute(quads, work, span, n, params);
-    let totals = count_out(work, span, n);
-    if components.len() / 3 < totals.components {
-        fill_zero(work);
-        return Labelled::Refused(Refusal::RecordsShort(totals.components as u32));
-    }
-    if entries.len() / 3 < totals.entries {
-        fill_zero(work);
-        return Labelled::Refused(Refusal::EntriesShort(totals.entries as u32));
-    }
-    write_out(work, span, n, components, entries);
-    fill_zero(work);
-    Labelled::Done(totals.components as u32, totals.entries as u32)
+    write_components(work, span, n, components, entries)
 }

@@ -1,7 +1,7 @@
 // Rows 1, 2 and 8: lengths that belong together, whole records, counts within limits, a workspace that is long enough.
 ghost use mathlib.Core.Path.{_≡_};
 ghost use Prim.Native.Nat.{_≤_, _<_};
-ghost use Rattle.mesh.specs.Lists.{pairedRow, doubledRow, wholeRow, limitRow, mostCorners, mostQuads, workRow, quadWords};
+ghost use Rattle.mesh.specs.Lists.{pairedRow, doubledRow, wholeRow, limitRow, mostCorners, mostHalfEdges, mostQuads, workRow, quadWords, frameWords};
 use refusal::Gate;
 use refusal::Refusal;
 
@@ -67,4 +67,12 @@ pub fn quad_words(quads: usize, corners: usize) -> usize
     ensures { λ r. ⌜ r ≡ quadWords quads corners ⌝ }
 {
     32 * quads + 16 * corners
+}
+
+// Row 2 has let through the numbers.
+pub fn frame_words(edges: usize, corners: usize) -> usize
+    requires { ⌜ (edges ≤ mostHalfEdges) × (corners ≤ mostCorners) ⌝ }
+    ensures { λ r. ⌜ r ≡ frameWords edges corners ⌝ }
+{
+    16 * (edges + corners)
 }

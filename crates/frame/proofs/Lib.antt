@@ -1,0 +1,14 @@
+pub mod Written
+pub mod Sound
+pub mod Fronts
+pub mod Making
+pub mod Sifting
+pub mod Handing
+pub mod Labelling
+pub mod Judging
+pub mod Outcomes
+pub mod Through
+pub mod Determined
+pub mod Demand
+pub mod Examples
+pub mod Single

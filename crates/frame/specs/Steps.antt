@@ -1,0 +1,35 @@
+-- What the stages leave in the lists that they are lent. Up to the filters the workspace is theirs and may hold anything; then every group of
+-- the quads kept has its fate there.
+use mathlib.Core.Path.{_≡_}
+use mathlib.Core.List.{List, _++_}
+use Prim.Native.Nat.{ℕ, _*_, max}
+use lib.ListN.{length, drop}
+use Rattle.classify.specs.Classes.{classesOf}
+use Rattle.quads.specs.Merge.{mergedOf}
+use Rattle.quads.specs.Call.{wordsOf}
+use Rattle.filter.specs.Input as filters
+use Rattle.filter.specs.Marks.{Marked, keptOf}
+use Rattle.fates.specs.Computed.{Computed}
+use Rattle.frame.specs.Stages.{Input, classing, merging, filtering}
+
+-- the class list is written; n quads are made, and stand at the front of their list, the rest of which is as it was
+pub record Made (i : Input) (classes : List ℕ) (n : ℕ) (before after : List ℕ) : Type 0 where
+  pub classed : classes ≡ classesOf (classing i)
+  pub count : n ≡ length (mergedOf (merging i))
+  pub front : after ≡ wordsOf (mergedOf (merging i)) ++ drop (4 * n) before
+
+-- n quads are kept by the marks of the filters, and stand at the front of their list, the rest of which is as it was
+pub record Sifted (f : filters.Input) (n : ℕ) (before after : List ℕ) : Type 0 where
+  pub marks : List ℕ
+  pub marked : Marked f marks
+  pub count : n ≡ length (keptOf f marks)
+  pub front : after ≡ wordsOf (keptOf f marks) ++ drop (4 * n) before
+
+-- n quads are kept by the marks of the filters; of these, the fates and records stand in the workspace, whatever the filters left in it
+pub record Fated (i : Input) (n : ℕ) (before after : List ℕ) : Type 0 where
+  pub marks : List ℕ
+  pub marked : Marked (filtering i) marks
+  pub count : n ≡ length (keptOf (filtering i) marks)
+  pub mid : List ℕ
+  pub len : length mid ≡ length before
+  pub computed : Computed (max n (length (i .xs))) (wordsOf (keptOf (filtering i) marks)) n (i .params .labels) mid after

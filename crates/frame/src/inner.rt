@@ -1,0 +1,91 @@
+// The rows of a frame apart from its work, row 8 apart from the rows before it, and the work up to the fates apart from writing: a caller of
+// several frames asks row 8 once and the others for each.
+ghost use mathlib.Core.Path.{_≡_};
+ghost use Prim.Native.Nat.{_≤_};
+ghost use lib.ListN.{length};
+ghost use Rattle.refusal.specs.declared.Gate.the-variants.{Open};
+ghost use Rattle.mesh.specs.Lists.{mostCorners, mostHalfEdges, workRow, frameWords};
+ghost use Rattle.frame.specs.Call.{judgeOf, entryGate};
+ghost use Rattle.frame.specs.Steps.{Fated};
+use crate::Params;
+use crate::gate::lengths_gate;
+use crate::gate::params_gate;
+use crate::gate::values_gate;
+use crate::stages::quads_of;
+use fates::inner::compute;
+use fates::inner::span_of;
+use mesh::inner::lists::MOST_QUADS;
+use mesh::inner::lists::frame_words;
+use mesh::inner::lists::work_row;
+use refusal::Gate;
+use refusal::inner::in_order;
+
+// Rows 1 to 7.
+pub fn judge(
+    x: &[f32],
+    y: &[f32],
+    angles: &[f32],
+    marks: &[u32],
+    spreads: &[f32],
+    triangles: &[u32],
+    twins: &[u32],
+    params: Params,
+) -> Gate
+    ensures { λ r. ⌜ r ≡ judgeOf (record { xs = now (x .entry); ys = now (y .entry); angles = now (angles .entry); marks = now (marks .entry); spreads = now (spreads .entry); triangles = now (triangles .entry); twins = now (twins .entry); params = params }) ⌝ }
+{
+    let lengths = lengths_gate(
+        x.len(),
+        y.len(),
+        angles.len(),
+        marks.len(),
+        spreads.len(),
+        triangles.len(),
+        twins.len(),
+    );
+    match lengths {
+        Gate::Open => in_order(params_gate(params), values_gate(x, y, triangles, twins)),
+        Gate::Shut(why) => Gate::Shut(why),
+    }
+}
+
+// Row 8, for counts that row 2 let through.
+pub fn work_gate(words: usize, edges: usize, corners: usize) -> Gate
+    requires { ⌜ (edges ≤ mostHalfEdges) × (corners ≤ mostCorners) ⌝ }
+    ensures { λ r. ⌜ r ≡ workRow words (frameWords edges corners) ⌝ }
+{
+    work_row(words, frame_words(edges, corners))
+}
+
+// The stages up to the fate of every group of the quads kept, for a frame that rows 1 to 8 let through; answers how many quads are kept.
+pub fn compute_frame(
+    x: &[f32],
+    y: &[f32],
+    angles: &[f32],
+    marks: &[u32],
+    spreads: &[f32],
+    triangles: &[u32],
+    twins: &[u32],
+    params: Params,
+    work: &mut [u32],
+) -> usize
+    requires { ⌜ entryGate (record { xs = now x; ys = now y; angles = now angles; marks = now marks; spreads = now spreads; triangles = now triangles; twins = now twins; params = params }) (length (now work)) ≡ Open ⌝ }
+    ensures { λ r. ⌜ Fated (record { xs = now (x .entry); ys = now (y .entry); angles = now (angles .entry); marks = now (marks .entry); spreads = now (spreads .entry); triangles = now (triangles .entry); twins = now (twins .entry); params = params }) r (now (work .entry)) (now (work .exit)) ⌝ }
+{
+    let labels = params.labels;
+    let mut kept = [0u32; 4 * MOST_QUADS];
+    let n = quads_of(
+        x,
+        y,
+        angles,
+        marks,
+        spreads,
+        triangles,
+        twins,
+        params,
+        work,
+        &mut kept,
+    );
+    let span = span_of(n, x.len());
+    compute(&kept[..4 * n], work, span, n, labels);
+    n
+}
