@@ -4,7 +4,7 @@
  *
  * LINKING
  * On x86-64 `rt staticlib abi` writes target/staticlib/libabi.a; `tools/native-archive abi OUT` writes one for this machine's processor.
- * Then: cc -Iinclude program.c libabi.a -lm (for C's fmodf; the archive asks for nothing else, and has no state).
+ * Then: cc -Iinclude program.c libabi.a -lm (for C's fmodf; beside it the archive asks for memset alone, and has no state).
  *
  * LISTS
  * A list is two arguments: a pointer to its first element, then the number of its elements (not bytes). What the proofs take for granted
@@ -64,6 +64,9 @@ extern "C" {
 #define NGEUNSADOK_MOST_HALF_EDGES 24576
 #define NGEUNSADOK_MOST_QUADS 4096
 
+/* The words of workspace that a whole frame asks for, with the number of its half-edges, that is, the elements of triangles. */
+#define NGEUNSADOK_FRAME_WORK(half_edges, corners) (16 * ((size_t)(half_edges) + (size_t)(corners)))
+
 /* The words of workspace that the filters and the labelling ask for, each with the number of its input quads. */
 #define NGEUNSADOK_QUAD_WORK(quads, corners) (32 * (size_t)(quads) + 16 * (size_t)(corners))
 
@@ -120,6 +123,25 @@ ngeunsadok_apart ngeunsadok_distance(float angle, float axis);
  * 0) or finite and below the limit. Row 3. */
 ngeunsadok_cache ngeunsadok_axis_cache(float angle0, uint32_t marked0, float spread0, float angle1, uint32_t marked1, float spread1,
                                        float limit);
+
+/* A whole frame: classes, quads, the three filters and labelling. This is the call to use; those below it are its stages, one by one.
+ *
+ * Read: x and y, the axes of each corner (angles, marks, spreads), triangles, and twins, one for each element of triangles.
+ * tolerance is how near an axis a Grid side is, and limit the spread below which an axis counts; ratio, least and greatest are those of
+ * the filters, leastquads and leastcorners those of the labelling, all as below.
+ * Written: components, three words each, by their lowest quads; and entries, three words each, in order of u, then v, within a component.
+ * With h elements of triangles there are at most h / 6 components and 4 * (h / 6) entries, both divisions rounded down: lists of
+ * 3 * (h / 6) and 12 * (h / 6) words always have room.
+ * Lent: work, of NGEUNSADOK_FRAME_WORK(h, corners) words or more. The call also takes some 160 KiB of stack.
+ *
+ * Rows 1 to 10. Rows 1 to 8 leave work, components and entries as they were. Rows 9 and 10 leave components and entries as they were and
+ * all of work zero. Success leaves all of work zero, and components and entries as they were past the answer. */
+ngeunsadok_counts ngeunsadok_label_frame(const float *x, size_t x_count, const float *y, size_t y_count, const float *angles,
+                                         size_t angle_count, const uint32_t *marks, size_t mark_count, const float *spreads,
+                                         size_t spread_count, const uint32_t *triangles, size_t triangle_words, const uint32_t *twins,
+                                         size_t twin_count, float tolerance, float ratio, float least, float greatest, float limit,
+                                         uint32_t leastquads, uint32_t leastcorners, uint32_t *work, size_t work_words,
+                                         uint32_t *components, size_t component_words, uint32_t *entries, size_t entry_words);
 
 /* The class of every half-edge into classes, which has as many elements as triangles. Rows 1 to 6. */
 ngeunsadok_verdict ngeunsadok_classify_all_edges(const float *x, size_t x_count, const float *y, size_t y_count, const float *angles,

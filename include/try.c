@@ -51,12 +51,51 @@ static void axis(void) {
 #define NONE NGEUNSADOK_NO_TWIN
 static const float x[4] = {0, 10, 10, 0}, y[4] = {0, 0, 10, 10};
 static const uint32_t triangles[6] = {0, 1, 2, 0, 2, 3}, twins[6] = {NONE, NONE, 3, 2, NONE, NONE};
-static const uint32_t square[6] = {0, 1, 2, 3, 77, 77};
+static const uint32_t marks[8] = {0, 0, 0, 0, 0, 0, 0, 0};
+#define UP 1.57079637f /* 3FC90FDB */
+static const float angles[8] = {0, UP, 0, UP, 0, UP, 0, UP}, spreads[8] = {0, 0, 0, 0, 0, 0, 0, 0};
+static const uint32_t square[6] = {0, 1, 2, 3, 77, 77}, placed[13] = {0, 0, 0, 0, 1, 3, 1, 0, 1, 1, 1, 2, 77};
+
+static uint32_t work[NGEUNSADOK_FRAME_WORK(6, 4)], components[4], entries[13];
+
+static void reset(void) {
+    size_t i;
+
+    memset(work, 0xFF, sizeof work);
+    for (i = 0; i < 4; i++) components[i] = 77;
+    for (i = 0; i < 13; i++) entries[i] = 77;
+}
+
+static int untouched(void) {
+    return components[0] == 77 && components[2] == 77 && entries[0] == 77 && entries[11] == 77;
+}
+
+/* The whole frame with these twins, a workspace of so many words and an entry list of so many. */
+static ngeunsadok_counts framed(const uint32_t *twin, size_t words, size_t entry_words) {
+    reset();
+    return ngeunsadok_label_frame(x, 4, y, 4, angles, 8, marks, 8, spreads, 8, triangles, 6, twin, 6, 0.25f, 1.5f, 0.5f, 2, 1, 1, 4, work,
+                                  words, components, 4, entries, entry_words);
+}
+
+static void frame(void) {
+    const uint32_t one_sided[6] = {NONE, NONE, 3, NONE, NONE, NONE};
+    ngeunsadok_counts counts = framed(twins, 160, 13);
+
+    EXPECT(bits(UP) == 0x3FC90FDB);
+    EXPECT(counts.refused == 0 && counts.place == 0 && counts.components == 1 && counts.entries == 4);
+    EXPECT(components[0] == 0 && components[1] == 4 && components[2] == 0 && components[3] == 77);
+    EXPECT(memcmp(entries, placed, sizeof entries) == 0 && work[0] == 0 && work[159] == 0);
+    counts = framed(one_sided, 160, 13);
+    EXPECT(counts.refused == 7 && counts.place == 2 && counts.components == 0 && counts.entries == 0);
+    EXPECT(untouched() && work[0] == 0xFFFFFFFF && work[159] == 0xFFFFFFFF);
+    counts = framed(twins, 159, 13);
+    EXPECT(counts.refused == 8 && counts.place == 160 && untouched() && work[0] == 0xFFFFFFFF);
+    counts = framed(twins, 160, 11);
+    EXPECT(counts.refused == 10 && counts.place == 4 && untouched() && work[0] == 0 && work[159] == 0);
+}
 
 static void stages(void) {
-    const uint32_t marks[8] = {0, 0, 0, 0, 0, 0, 0, 0}, wanted[6] = {1, 1, 2, 2, 1, 1};
-    const float spreads[8] = {0, 0, 0, 0, 0, 0, 0, 0}, up = from_bits(0x3FC90FDB);
-    const float angles[8] = {0, up, 0, up, 0, up, 0, up};
+    const uint32_t wanted[6] = {1, 1, 2, 2, 1, 1};
     uint32_t classes[6] = {77, 77, 77, 77, 77, 77}, quads[6] = {77, 77, 77, 77, 77, 77};
 
     ngeunsadok_verdict verdict;
@@ -72,9 +111,9 @@ static void stages(void) {
 }
 
 static void filters(void) {
-    uint32_t kept[6] = {77, 77, 77, 77, 77, 77}, work[NGEUNSADOK_QUAD_WORK(1, 4)];
+    uint32_t kept[6] = {77, 77, 77, 77, 77, 77};
 
-    memset(work, 0xFF, sizeof work);
+    reset();
     ngeunsadok_count count = ngeunsadok_filter_quads(x, 4, y, 4, square, 4, 1.5f, 0.5f, 2, work, 95, kept, 6);
     EXPECT(count.refused == 8 && count.place == 96 && work[0] == 0xFFFFFFFF && kept[0] == 77);
     count = ngeunsadok_filter_quads(x, 4, y, 4, square, 4, 1.5f, 0.5f, 2, work, 96, kept, 6);
@@ -83,23 +122,21 @@ static void filters(void) {
 }
 
 static void labels(void) {
-    const uint32_t wanted[13] = {0, 0, 0, 0, 1, 3, 1, 0, 1, 1, 1, 2, 77};
-    uint32_t components[4] = {77, 77, 77, 77}, entries[13], work[NGEUNSADOK_QUAD_WORK(1, 4)];
-    size_t i;
+    ngeunsadok_counts counts;
 
-    memset(work, 0xFF, sizeof work);
-    for (i = 0; i < 13; i++) entries[i] = 77;
-    ngeunsadok_counts counts = ngeunsadok_label_components(square, 4, 4, 1, 4, work, 96, components, 4, entries, 11);
-    EXPECT(counts.refused == 10 && counts.place == 4 && components[0] == 77 && entries[0] == 77 && work[0] == 0);
+    reset();
+    counts = ngeunsadok_label_components(square, 4, 4, 1, 4, work, 96, components, 4, entries, 11);
+    EXPECT(counts.refused == 10 && counts.place == 4 && untouched() && work[0] == 0);
     counts = ngeunsadok_label_components(square, 4, 4, 1, 4, work, 96, components, 4, entries, 13);
     EXPECT(counts.refused == 0 && counts.components == 1 && counts.entries == 4);
     EXPECT(components[0] == 0 && components[1] == 4 && components[2] == 0 && components[3] == 77);
-    EXPECT(memcmp(entries, wanted, sizeof entries) == 0);
+    EXPECT(memcmp(entries, placed, sizeof entries) == 0);
 }
 
 int main(void) {
     numbers();
     axis();
+    frame();
     stages();
     filters();
     labels();

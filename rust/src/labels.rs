@@ -107,6 +107,11 @@ pub fn label_components(
             3 * entries.len(),
         )
     };
-    let written = Counts { components: counts.components as usize, entries: counts.entries as usize };
-    told(counts.refused, counts.place, written)
+    written(counts)
+}
+
+/// What the archive tells of a labelling.
+pub(crate) fn written(counts: raw::Counts) -> Result<Counts, Refusal> {
+    let given = Counts { components: counts.components as usize, entries: counts.entries as usize };
+    told(counts.refused, counts.place, given)
 }

@@ -25,6 +25,8 @@ use Rattle.walk.specs.declared.Labelled.{Labelled}
 use Rattle.walk.specs.declared.Labelled.the-variants as labelled
 use Rattle.walk.specs.Input as walk
 use Rattle.walk.specs.Call as walk-call
+use Rattle.frame.specs.Stages as frame
+use Rattle.frame.specs.Call as frame-call
 use Rattle.abi.specs.declared.Number.{Number}
 use Rattle.abi.specs.declared.Apart.{Apart}
 use Rattle.abi.specs.declared.Cache.{Cache}
@@ -88,8 +90,15 @@ abbrev pub countsFrom : Labelled → Counts
 countsFrom (labelled.Done m n) = record { refused = 0; place = 0; components = m; entries = n }
 countsFrom (labelled.Refused why) = record { refused = numberOf why; place = placeOf why; components = 0; entries = 0 }
 
--- what is told of the labelling, and the three lists after, are an outcome that the call allows
-pub record LabelTold (i : walk.Input) (work components entries : List ℕ) (told : Counts) (workAfter componentsAfter entriesAfter : List ℕ) : Type 0 where
+-- what is told, and the three lists after, are an outcome that is allowed
+pub record CountsTold (allows : walk-call.Outcome → Type 0) (told : Counts) (workAfter componentsAfter entriesAfter : List ℕ) : Type 0 where
   pub answer : Labelled
   pub tells : told ≡ countsFrom answer
-  pub allowed : walk-call.Allowed i work components entries (record { answer = answer; work = workAfter; components = componentsAfter; entries = entriesAfter })
+  pub allowed : allows (record { answer = answer; work = workAfter; components = componentsAfter; entries = entriesAfter })
+
+-- of the labelling, and of a whole frame
+abbrev pub LabelTold : (i : walk.Input) (work components entries : List ℕ) → Counts → List ℕ → List ℕ → List ℕ → Type 0
+LabelTold i work components entries = CountsTold (walk-call.Allowed i work components entries)
+
+abbrev pub FrameTold : (i : frame.Input) (work components entries : List ℕ) → Counts → List ℕ → List ℕ → List ℕ → Type 0
+FrameTold i work components entries = CountsTold (frame-call.Allowed i work components entries)

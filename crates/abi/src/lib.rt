@@ -7,12 +7,13 @@ ghost use Rattle.measure.specs.RootComputed.{rootOf};
 ghost use Rattle.axis.specs.Cache.{cacheCall, spreadFrom};
 ghost use Rattle.classify.specs.Call as edges;
 ghost use Rattle.quads.specs.Call as pairs;
-ghost use Rattle.abi.specs.Answers.{numberFrom, apartFrom, cacheFrom, ClassesTold, classesTold, QuadsTold, quadsTold, FilterTold, LabelTold};
+ghost use Rattle.abi.specs.Answers.{numberFrom, apartFrom, cacheFrom, ClassesTold, classesTold, QuadsTold, quadsTold, FilterTold, LabelTold, FrameTold};
 use axis::SpreadRule;
 use axis::inner::spread_from;
-use classify::EdgeParams;
-use fates::LabelParams;
-use filter::FilterParams;
+use params::edge_params;
+use params::filter_params;
+use params::frame_params;
+use params::label_params;
 use tell::tell_cache;
 use tell::tell_classified;
 use tell::tell_distance;
@@ -21,6 +22,7 @@ use tell::tell_labelled;
 use tell::tell_merged;
 use tell::tell_number;
 
+mod params;
 mod tell;
 
 // refused is 0 beside a value; else it is the refusal's number, place its place, and value 0.
@@ -128,10 +130,7 @@ pub extern "C" fn ngeunsadok_classify_all_edges(
     ensures { λ r. ⌜ _≡_ {A = ClassesTold} (record { told = r; classes = now (classes .exit) })
         (classesTold (edges.callOf (record { xs = now (x .entry); ys = now (y .entry); angles = now (angles .entry); marks = now (marks .entry); spreads = now (spreads .entry); triangles = now (triangles .entry); params = record { tolerance = tolerance; spread = record { limit = limit } } }) (now (classes .entry)))) ⌝ }
 {
-    let params = EdgeParams {
-        tolerance,
-        spread: SpreadRule { limit },
-    };
+    let params = edge_params(tolerance, limit);
     tell_classified(classify::classify_all_edges(
         x,
         y,
@@ -172,11 +171,7 @@ pub extern "C" fn ngeunsadok_filter_quads(
 ) -> Count
     ensures { λ r. ⌜ FilterTold (record { xs = now (x .entry); ys = now (y .entry); quads = now (quads .entry); params = record { ratio = ratio; least = least; greatest = greatest } }) (now (work .entry)) (now (kept .entry)) r (now (work .exit)) (now (kept .exit)) ⌝ }
 {
-    let params = FilterParams {
-        ratio,
-        least,
-        greatest,
-    };
+    let params = filter_params(ratio, least, greatest);
     tell_filtered(filter::filter_quads(x, y, quads, params, work, kept))
 }
 
@@ -192,9 +187,47 @@ pub extern "C" fn ngeunsadok_label_components(
 ) -> Counts
     ensures { λ r. ⌜ LabelTold (record { quads = now (quads .entry); corners = corners; params = record { quads = leastquads; corners = leastcorners } }) (now (work .entry)) (now (components .entry)) (now (entries .entry)) r (now (work .exit)) (now (components .exit)) (now (entries .exit)) ⌝ }
 {
-    let params = LabelParams {
-        quads: leastquads,
-        corners: leastcorners,
-    };
+    let params = label_params(leastquads, leastcorners);
     tell_labelled(walk::label_components(quads, corners, params, work, components, entries))
+}
+
+#[no_mangle]
+pub extern "C" fn ngeunsadok_label_frame(
+    x: &[f32],
+    y: &[f32],
+    angles: &[f32],
+    marks: &[u32],
+    spreads: &[f32],
+    triangles: &[u32],
+    twins: &[u32],
+    tolerance: f32,
+    ratio: f32,
+    least: f32,
+    greatest: f32,
+    limit: f32,
+    leastquads: u32,
+    leastcorners: u32,
+    work: &mut [u32],
+    components: &mut [u32],
+    entries: &mut [u32],
+) -> Counts
+    ensures { λ r. ⌜ FrameTold (record { xs = now (x .entry); ys = now (y .entry); angles = now (angles .entry); marks = now (marks .entry); spreads = now (spreads .entry); triangles = now (triangles .entry); twins = now (twins .entry); params = record { edges = record { tolerance = tolerance; spread = record { limit = limit } }; filters = record { ratio = ratio; least = least; greatest = greatest }; labels = record { quads = leastquads; corners = leastcorners } } }) (now (work .entry)) (now (components .entry)) (now (entries .entry)) r (now (work .exit)) (now (components .exit)) (now (entries .exit)) ⌝ }
+{
+    let edges = edge_params(tolerance, limit);
+    let filters = filter_params(ratio, least, greatest);
+    let labels = label_params(leastquads, leastcorners);
+    let params = frame_params(edges, filters, labels);
+    tell_labelled(frame::label_frame(
+        x,
+        y,
+        angles,
+        marks,
+        spreads,
+        triangles,
+        twins,
+        params,
+        work,
+        components,
+        entries,
+    ))
 }

@@ -5,6 +5,9 @@ use borrow.Author.Needs.{needs}
 use Rattle.abi.proofs.ngeunsadok_classify_all_edges.Statement.{statement}
 use Rattle.abi.proofs.ngeunsadok_classify_all_edges.Tie as tie
 
+edge-params-requires : tie.Need-edge-params-requires
+edge-params-requires c κs = search needs
+
 classify-all-edges-requires : tie.Need-classify-all-edges-requires
 classify-all-edges-requires c κs = search needs
 
@@ -15,8 +18,14 @@ same-length : tie.Need-same-length
 same-length c = search needs
 
 returns : tie.Need-returns
-returns c = rw (c .tell-classified .ensures) (ap classesTold (c .before .before .before .classify-all-edges .ensures))
+returns c = rw (c .tell-classified .ensures) (ap classesTold (rw (c .before .before .before .before .before .edge-params .ensures) at (c .before .before .before .classify-all-edges .ensures)))
 
 pub ngeunsadok-classify-all-edges-spec : {M : Type 1} → statement M
 ngeunsadok-classify-all-edges-spec =
-    tie.close (tie.spec classify-all-edges-requires tell-classified-requires same-length returns)
+    tie.close
+    (tie.spec
+    edge-params-requires
+    classify-all-edges-requires
+    tell-classified-requires
+    same-length
+    returns)

@@ -1,0 +1,89 @@
+// The whole frame in one call: document 01's frame labelled, and rows of its table with what they leave of the lists.
+
+use ngeunsadok::*;
+
+/// The frame of document 01: a square of four corners in two triangles, axes along its sides, no spreads.
+const UP: f32 = std::f32::consts::FRAC_PI_2;
+const SQUARE: Frame = Frame {
+    corners: Positions { x: &[0.0, 10.0, 10.0, 0.0], y: &[0.0, 0.0, 10.0, 10.0] },
+    axes: Axes { angles: &[0.0, UP, 0.0, UP, 0.0, UP, 0.0, UP], marks: &[0; 8], spreads: &[0.0; 8] },
+    triangles: &[0, 1, 2, 0, 2, 3],
+    twins: &[NO_TWIN, NO_TWIN, 3, 2, NO_TWIN, NO_TWIN],
+};
+const PARAMS: Params = Params {
+    edges: EdgeParams { tolerance: 0.25, limit: 1.0 },
+    filters: FilterParams { ratio: 1.5, least: 0.5, greatest: 2.0 },
+    labels: LabelParams { quads: 1, corners: 4 },
+};
+
+/// What stands in a list before a call.
+const REST: u32 = 77;
+const NO_COMPONENT: Component = Component { before: REST, entries: REST, holes: REST };
+const NO_ENTRY: Entry = Entry { u: REST, v: REST, corner: REST };
+
+/// The call with a workspace of so many words and lists of so many records, and the lists after it.
+fn labelled(frame: Frame, params: Params, rooms: [usize; 3]) -> (Result<Counts, Refusal>, Vec<u32>, Vec<Component>, Vec<Entry>) {
+    let [words, records, places] = rooms;
+    let (mut work, mut components, mut entries) = (vec![REST; words], vec![NO_COMPONENT; records], vec![NO_ENTRY; places]);
+    let answer = label_frame(frame, params, &mut work, &mut components, &mut entries);
+    (answer, work, components, entries)
+}
+
+/// The call refuses by that row at that place, writes no list, and leaves the whole workspace filled with that word.
+fn refused(frame: Frame, params: Params, rooms: [usize; 3], number: u32, place: u32, left: u32) {
+    let (answer, work, components, entries) = labelled(frame, params, rooms);
+    assert_eq!(answer, Err(Refusal { number, place }));
+    assert_eq!(work, vec![left; rooms[0]]);
+    assert_eq!((components, entries), (vec![NO_COMPONENT; rooms[1]], vec![NO_ENTRY; rooms[2]]));
+}
+
+#[test]
+fn the_frame_of_document_01() {
+    let entry = |u, v, corner| Entry { u, v, corner };
+    let (answer, work, components, entries) = labelled(SQUARE, PARAMS, [frame_work(6, 4) + 3, 2, 5]);
+    assert_eq!(answer, Ok(Counts { components: 1, entries: 4 }));
+    assert_eq!(components, [Component { before: 0, entries: 4, holes: 0 }, NO_COMPONENT]);
+    assert_eq!(entries, [entry(0, 0, 0), entry(0, 1, 3), entry(1, 0, 1), entry(1, 1, 2), NO_ENTRY]);
+    assert_eq!(work, vec![0; 163]);
+}
+
+#[test]
+fn a_group_below_the_least_is_no_component() {
+    let params = Params { labels: LabelParams { quads: 2, corners: 4 }, ..PARAMS };
+    let (answer, work, components, _) = labelled(SQUARE, params, [160, 1, 4]);
+    assert_eq!(answer, Ok(Counts { components: 0, entries: 0 }));
+    assert_eq!((work, components), (vec![0; 160], vec![NO_COMPONENT]));
+}
+
+#[test]
+fn a_frame_without_corners() {
+    let corners = Positions { x: &[], y: &[] };
+    let axes = Axes { angles: &[], marks: &[], spreads: &[] };
+    let nothing = Frame { corners, axes, triangles: &[], twins: &[] };
+    assert_eq!(labelled(nothing, PARAMS, [0, 0, 0]).0, Ok(Counts { components: 0, entries: 0 }));
+}
+
+#[test]
+fn rows_1_to_7_come_before_the_workspace() {
+    let rooms = [1, 1, 4];
+    refused(Frame { twins: &SQUARE.twins[..5], ..SQUARE }, PARAMS, rooms, 1, 0, REST);
+    let half_edges = vec![0; 24_579];
+    refused(Frame { triangles: &half_edges, twins: &half_edges, ..SQUARE }, PARAMS, rooms, 2, 0, REST);
+    let edges = EdgeParams { limit: f32::NAN, ..PARAMS.edges };
+    refused(SQUARE, Params { edges, ..PARAMS }, rooms, 3, 4, REST);
+    let filters = FilterParams { ratio: f32::NAN, least: f32::NAN, ..PARAMS.filters };
+    refused(SQUARE, Params { edges, filters, ..PARAMS }, rooms, 3, 1, REST);
+    let corners = Positions { y: &[0.0, 0.0, 10.0, f32::INFINITY], ..SQUARE.corners };
+    refused(Frame { corners, ..SQUARE }, PARAMS, rooms, 4, 3, REST);
+    refused(Frame { triangles: &[0, 1, 2, 0, 2, 4], ..SQUARE }, PARAMS, rooms, 5, 5, REST);
+    refused(Frame { triangles: &[0, 1, 2, 0, 2, 2], ..SQUARE }, PARAMS, rooms, 6, 1, REST);
+    let twins = &[NO_TWIN, NO_TWIN, 3, NO_TWIN, NO_TWIN, NO_TWIN];
+    refused(Frame { twins, ..SQUARE }, PARAMS, rooms, 7, 2, REST);
+}
+
+#[test]
+fn lists_without_room() {
+    refused(SQUARE, PARAMS, [159, 1, 4], 8, 160, REST);
+    refused(SQUARE, PARAMS, [163, 0, 3], 9, 1, 0);
+    refused(SQUARE, PARAMS, [160, 1, 3], 10, 4, 0);
+}
