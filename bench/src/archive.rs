@@ -1,75 +1,14 @@
-// The archive's calls as safe functions: each is total, so nothing has to be tested first.
-// The declarations follow crates/abi/src/lib.rt; nothing checks them against it.
+// The archive's calls as functions over a frame's lists of any length: each call is total, so nothing has to be tested first, and a list
+// need not be of whole records.
 
 use frame::Frame;
+use ngeunsadok as _;
 use oracle::calls::Given;
 use oracle::judge::Refusal;
 
-#[repr(C)]
-#[derive(Clone, Copy)]
-struct Number {
-    refused: u32,
-    place: u32,
-    value: f32,
-}
-
-#[repr(C)]
-#[derive(Clone, Copy)]
-struct Apart {
-    known: u32,
-    value: f32,
-}
-
-#[repr(C)]
-#[derive(Clone, Copy)]
-struct Count {
-    refused: u32,
-    place: u32,
-    count: u32,
-}
-
-#[repr(C)]
-#[derive(Clone, Copy)]
-struct Counts {
-    refused: u32,
-    place: u32,
-    components: u32,
-    entries: u32,
-}
-
-extern "C" {
-    fn ngeunsadok_root(x: f32) -> Number;
-    fn ngeunsadok_angle(dx: f32, dy: f32) -> Number;
-    fn ngeunsadok_distance(angle: f32, axis: f32) -> Apart;
-    fn ngeunsadok_filter_quads(
-        x: *const f32,
-        xs: usize,
-        y: *const f32,
-        ys: usize,
-        quads: *const u32,
-        quad_words: usize,
-        ratio: f32,
-        least: f32,
-        greatest: f32,
-        work: *mut u32,
-        work_words: usize,
-        kept: *mut u32,
-        kept_words: usize,
-    ) -> Count;
-    fn ngeunsadok_label_components(
-        quads: *const u32,
-        quad_words: usize,
-        corners: u32,
-        least_quads: u32,
-        least_corners: u32,
-        work: *mut u32,
-        work_words: usize,
-        components: *mut u32,
-        component_words: usize,
-        entries: *mut u32,
-        entry_words: usize,
-    ) -> Counts;
-}
+#[allow(dead_code)]
+#[path = "../../rust/src/raw.rs"]
+mod raw;
 
 /// What a call gives where it does not refuse.
 fn told<T>(refused: u32, place: u32, given: T) -> Result<T, Refusal> {
@@ -82,27 +21,73 @@ fn told<T>(refused: u32, place: u32, given: T) -> Result<T, Refusal> {
 
 #[inline]
 pub fn root(x: f32) -> Result<f32, Refusal> {
-    let root = unsafe { ngeunsadok_root(x) };
+    let root = unsafe { raw::ngeunsadok_root(x) };
     told(root.refused, root.place, root.value)
 }
 
 #[inline]
 pub fn angle(dx: f32, dy: f32) -> Result<f32, Refusal> {
-    let angle = unsafe { ngeunsadok_angle(dx, dy) };
+    let angle = unsafe { raw::ngeunsadok_angle(dx, dy) };
     told(angle.refused, angle.place, angle.value)
 }
 
 #[inline]
 pub fn distance(angle: f32, axis: f32) -> Option<f32> {
-    let d = unsafe { ngeunsadok_distance(angle, axis) };
+    let d = unsafe { raw::ngeunsadok_distance(angle, axis) };
     (d.known == 1).then_some(d.value)
+}
+
+/// Writes the classes. The frame's twins are not read.
+pub fn classify_all_edges(frame: &Frame, classes: &mut [u32]) -> Result<(), Refusal> {
+    let verdict = unsafe {
+        raw::ngeunsadok_classify_all_edges(
+            frame.x.as_ptr(),
+            frame.x.len(),
+            frame.y.as_ptr(),
+            frame.y.len(),
+            frame.angles.as_ptr(),
+            frame.angles.len(),
+            frame.marks.as_ptr(),
+            frame.marks.len(),
+            frame.spreads.as_ptr(),
+            frame.spreads.len(),
+            frame.triangles.as_ptr(),
+            frame.triangles.len(),
+            frame.params.tolerance,
+            frame.params.spread_limit,
+            classes.as_mut_ptr(),
+            classes.len(),
+        )
+    };
+    told(verdict.refused, verdict.place, ())
+}
+
+/// How many quads there are. The frame's axes and parameters are not read.
+pub fn merge_triangle_pairs(frame: &Frame, classes: &[u32], quads: &mut [u32]) -> Result<usize, Refusal> {
+    let count = unsafe {
+        raw::ngeunsadok_merge_triangle_pairs(
+            frame.x.as_ptr(),
+            frame.x.len(),
+            frame.y.as_ptr(),
+            frame.y.len(),
+            frame.triangles.as_ptr(),
+            frame.triangles.len(),
+            frame.twins.as_ptr(),
+            frame.twins.len(),
+            classes.as_ptr(),
+            classes.len(),
+            quads.as_mut_ptr(),
+            quads.len(),
+        )
+    };
+    told(count.refused, count.place, count.count as usize)
 }
 
 /// How many quads are kept. Of the frame, the positions and three parameters are read.
 pub fn filter_quads(frame: &Frame, quads: &[u32], work: &mut [u32], kept: &mut [u32]) -> Result<usize, Refusal> {
     let (x, y, params) = (&frame.x, &frame.y, &frame.params);
     let count = unsafe {
-        ngeunsadok_filter_quads(
+        raw::ngeunsadok_filter_quads(
             x.as_ptr(),
             x.len(),
             y.as_ptr(),
@@ -129,7 +114,7 @@ pub fn label_components(
     entries: &mut [u32],
 ) -> Result<[usize; 2], Refusal> {
     let counts = unsafe {
-        ngeunsadok_label_components(
+        raw::ngeunsadok_label_components(
             given.quads.as_ptr(),
             given.quads.len(),
             given.corners,
@@ -143,5 +128,46 @@ pub fn label_components(
             entries.len(),
         )
     };
+    both(counts)
+}
+
+/// How many components and entries a whole frame has.
+pub fn label_frame(frame: &Frame, [work, components, entries]: [&mut [u32]; 3]) -> Result<[usize; 2], Refusal> {
+    let params = &frame.params;
+    let counts = unsafe {
+        raw::ngeunsadok_label_frame(
+            frame.x.as_ptr(),
+            frame.x.len(),
+            frame.y.as_ptr(),
+            frame.y.len(),
+            frame.angles.as_ptr(),
+            frame.angles.len(),
+            frame.marks.as_ptr(),
+            frame.marks.len(),
+            frame.spreads.as_ptr(),
+            frame.spreads.len(),
+            frame.triangles.as_ptr(),
+            frame.triangles.len(),
+            frame.twins.as_ptr(),
+            frame.twins.len(),
+            params.tolerance,
+            params.ratio,
+            params.least,
+            params.greatest,
+            params.spread_limit,
+            params.least_quads,
+            params.least_corners,
+            work.as_mut_ptr(),
+            work.len(),
+            components.as_mut_ptr(),
+            components.len(),
+            entries.as_mut_ptr(),
+            entries.len(),
+        )
+    };
+    both(counts)
+}
+
+fn both(counts: raw::Counts) -> Result<[usize; 2], Refusal> {
     told(counts.refused, counts.place, [counts.components, counts.entries].map(|count| count as usize))
 }

@@ -23,7 +23,7 @@ pub fn roots() {
     for bits in 0..=u32::MAX {
         let x = f32::from_bits(bits);
         let (ours, theirs) = (known(archive::root(x)), rules::root_or_refused(x));
-        tally.add(same(ours, theirs), || format!("{bits:08X} {ours:?} {theirs:?}"));
+        tally.add(same(ours, theirs), 0, || format!("{bits:08X} {ours:?} {theirs:?}"));
         if bits % 0x1000_0000 == 0x0FFF_FFFF {
             eprintln!("{} of 16", bits / 0x1000_0000 + 1);
         }
@@ -46,10 +46,10 @@ pub fn pairs(count: u64, seed: u64) {
     for i in 0..count {
         let (dx, dy) = pair(&mut random, i);
         let (ours, theirs) = (known(archive::angle(dx, dy)), rules::angle_or_refused(dx, dy));
-        angles.add(same(ours, theirs), || format!("{:08X} {:08X}", dx.to_bits(), dy.to_bits()));
+        angles.add(same(ours, theirs), 0, || format!("{:08X} {:08X}", dx.to_bits(), dy.to_bits()));
         let (angle, axis) = (theirs.unwrap_or(dx), if i % 2 == 0 { random.within(-8.0, 8.0) as f32 } else { dy });
         let (ours, theirs) = (archive::distance(angle, axis), rules::distance_or_none(angle, axis));
-        distances.add(same(ours, theirs), || format!("{:08X} {:08X}", angle.to_bits(), axis.to_bits()));
+        distances.add(same(ours, theirs), 0, || format!("{:08X} {:08X}", angle.to_bits(), axis.to_bits()));
     }
     angles.print("angles");
     distances.print("distances");

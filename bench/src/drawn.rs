@@ -33,11 +33,11 @@ where
     }
 
     pub fn check(&self, count: u64, seed: u64) {
-        let (mut beside, mut quads) = (Beside::new(), 0);
+        let (mut beside, mut quads) = (Beside::default(), 0);
         for i in 0..count {
             let case = self.drawn(&mut Random::part(seed, i));
             let (ours, theirs) = ((self.ours)(&case), case.answer());
-            beside.add(&ours, &theirs, || format!("list {i}: {case:?}"));
+            beside.add(&ours, &theirs, case.quads().len(), || format!("list {i}: {case:?}"));
             quads += if ours.result.is_ok() { case.quads().len() / 4 } else { 0 };
         }
         beside.print(self.name, &self.counts);

@@ -3,11 +3,15 @@
 mod archive;
 mod check;
 mod check_filters;
+mod check_frames;
 mod check_labels;
 mod drawn;
 mod filters;
+mod frames;
 mod labels;
+mod meshes;
 mod numbers;
+mod stages;
 mod tally;
 mod timing;
 
@@ -15,11 +19,14 @@ const HELP: &str = "\
 bench numbers                 time per root, angle and distance beside the Rust's
 bench filters                 time of the filters beside the Rust's
 bench labels                  time of the labelling beside the Rust's
+bench frames                  time of whole frames and of each stage beside the unchanged Rust's
 bench check roots             every f32's root beside the machine's own
 bench check pairs COUNT SEED  angles and distances beside document 01's rules in Rust
 bench check filters COUNT SEED
                               the filters on drawn lists beside the ruled Rust, every word
-bench check labels COUNT SEED the labelling on drawn lists beside the Rust's walk, every word";
+bench check labels COUNT SEED the labelling on drawn lists beside the Rust's walk, every word
+bench check frames COUNT SEED whole frames and their stages beside the ruled and the unchanged Rust, every word
+bench check full COUNT SEED   the same on frames of 4,096 corners and 24,576 half-edges";
 
 fn number(word: Option<&String>, otherwise: u64) -> u64 {
     word.and_then(|w| w.parse().ok()).unwrap_or(otherwise)
@@ -34,9 +41,12 @@ fn main() {
         ["numbers"] => numbers::run(),
         ["filters"] => filters::run(),
         ["labels"] => labels::run(),
+        ["frames"] => frames::run(),
         ["check", "roots"] => check::roots(),
         ["check", "filters", ..] => check_filters::FILTERS.check(count(100_000), seed),
         ["check", "labels", ..] => check_labels::LABELS.check(count(100_000), seed),
+        ["check", "frames", ..] => check_frames::frames(count(100_000), seed),
+        ["check", "full", ..] => check_frames::full_frames(count(200), seed),
         ["check", "pairs", ..] => check::pairs(count(100_000_000), seed),
         _ => println!("{HELP}"),
     }

@@ -3,27 +3,36 @@
 use oracle::judge::Refusal;
 use oracle::told::Told;
 
-/// Counts what differs and keeps the first.
+/// Counts what differs and keeps the smallest, the first of those.
 #[derive(Default)]
 pub struct Tally {
     compared: u64,
     different: u64,
-    first: Option<String>,
+    smallest: Option<(usize, String)>,
 }
 
 impl Tally {
-    pub fn add(&mut self, same: bool, what: impl FnOnce() -> String) {
+    /// Counts a comparison of something of a size, which is said only where it is kept.
+    pub fn add(&mut self, same: bool, size: usize, what: impl FnOnce() -> String) {
         self.compared += 1;
-        if !same {
-            self.different += 1;
-            self.first.get_or_insert_with(what);
+        if same {
+            return;
+        }
+        self.different += 1;
+        if self.smallest.as_ref().is_none_or(|(least, _)| size < *least) {
+            self.smallest = Some((size, what()));
         }
     }
 
-    pub fn print(&self, name: &str) {
+    /// Prints how many there are, and shows none.
+    pub fn print_counts(&self, name: &str) {
         println!("{name}: {} compared, {} different", self.compared, self.different);
-        if let Some(first) = &self.first {
-            println!("  first: {first}");
+    }
+
+    pub fn print(&self, name: &str) {
+        self.print_counts(name);
+        if let Some((_, smallest)) = &self.smallest {
+            println!("  smallest: {smallest}");
         }
     }
 }
@@ -37,20 +46,23 @@ pub struct Beside<const COUNTS: usize> {
     refused: [u64; 11],
 }
 
-impl<const COUNTS: usize> Beside<COUNTS> {
-    pub fn new() -> Self {
+impl<const COUNTS: usize> Default for Beside<COUNTS> {
+    fn default() -> Self {
         Beside { tally: Tally::default(), sums: [0; COUNTS], refused: [0; 11] }
     }
+}
 
-    /// Compares two answers to the case that is named by the last.
+impl<const COUNTS: usize> Beside<COUNTS> {
+    /// Compares two answers to the case that is named by the last, of a size.
     pub fn add<const LISTS: usize>(
         &mut self,
         ours: &Told<COUNTS, LISTS>,
         theirs: &Told<COUNTS, LISTS>,
+        size: usize,
         case: impl FnOnce() -> String,
     ) {
         let parted = ours.parted(theirs);
-        self.tally.add(parted.is_none(), || format!("{}: {}", parted.unwrap_or_default(), case()));
+        self.tally.add(parted.is_none(), size, || format!("{}: {}", parted.unwrap_or_default(), case()));
         match ours.result {
             Ok(counts) => self.sums.iter_mut().zip(counts).for_each(|(sum, count)| *sum += count),
             Err(Refusal { row, .. }) => self.refused[row as usize] += 1,

@@ -17,16 +17,35 @@ pub fn best<T, R>(make: impl Fn() -> T, mut call: impl FnMut(T) -> R) -> f64 {
     least
 }
 
-/// The head of a table: its unit, then the names of the counts that a row has.
-pub fn head(unit: &str, counts: &[&str]) {
-    let columns = [&[unit], counts, &["this", "the Rust", "ratio"]].concat();
+const TIMES: [&str; 3] = ["this", "the Rust", "ratio"];
+
+fn print_head(columns: &[&str]) {
     println!("| {} |", columns.join(" | "));
     println!("|{}", "---|".repeat(columns.len()));
 }
 
-pub fn row(name: &str, counts: &[usize], ours: f64, theirs: f64) {
+fn line(name: &str, counts: &[usize], ours: f64, theirs: f64) -> String {
     let counts: String = counts.iter().map(|count| format!(" {count} |")).collect();
-    println!("| {name} |{counts} {ours:.1} | {theirs:.1} | {:.2} |", ours / theirs);
+    format!("| {name} |{counts} {ours:.1} | {theirs:.1} | {:.2} |", ours / theirs)
+}
+
+/// The head of a table: its unit, then the names of the counts that a row has.
+pub fn head(unit: &str, counts: &[&str]) {
+    print_head(&[&[unit], counts, &TIMES].concat());
+}
+
+pub fn row(name: &str, counts: &[usize], ours: f64, theirs: f64) {
+    println!("{}", line(name, counts, ours, theirs));
+}
+
+/// The head of a table whose first count is of corners, and which ends with what a corner costs.
+pub fn head_by_corner(counts: &[&str]) {
+    print_head(&[&[&format!("best of {ROUNDS}, µs"), "corners"], counts, &TIMES, &["this, ns a corner"]].concat());
+}
+
+pub fn row_by_corner(name: &str, corners: usize, counts: &[usize], ours: f64, theirs: f64) {
+    let each = if corners == 0 { "–".to_string() } else { format!("{:.0}", 1_000.0 * ours / corners as f64) };
+    println!("{} {each} |", line(name, &[&[corners], counts].concat(), ours, theirs));
 }
 
 /// The head of a table of calls that are lent lists.

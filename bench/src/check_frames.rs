@@ -1,0 +1,132 @@
+// Whole frames of the archive beside the ruled Rust, every word of the lists that they are lent; on the same frames the calls of the
+// stages between; and all of it beside the unchanged Rust, where document 01 owes equality and where it does not.
+
+use crate::archive;
+use crate::stages::{Stages, OURS, RULED};
+use crate::tally::{Beside, Tally};
+use oracle::frames::{drawn, expected, Unchanged};
+use oracle::generate::{damage::damage, torus};
+use oracle::judge::MOST_CORNERS;
+use oracle::random::Random;
+use oracle::text;
+use oracle::told::Told;
+use oracle::vectors::frames::{lend, Case};
+
+/// So many frames, then a line that says how far it is.
+const PROGRESS: u64 = 10_000;
+
+/// One full frame in so many is damaged.
+const DAMAGED: usize = 10;
+
+/// What the filters' three calls on a frame are named.
+const FILTERS: [&str; 3] = ["first filter", "first two filters", "all filters"];
+
+/// The comparisons of a run.
+#[derive(Default)]
+struct Frames {
+    frames: Beside<2>,
+    classes: Beside<1>,
+    quads: Beside<1>,
+    kept: [Beside<1>; 3],
+    /// The stages beside those of a run of the whole by the ruled Rust.
+    run: Tally,
+    /// The frame and its stages beside the unchanged Rust's: in scope by the letter, by the narrow reading, out of both.
+    unchanged: [Tally; 3],
+    /// The most corners and half-edges of an accepted frame.
+    most: [usize; 2],
+}
+
+/// Names a frame by its number, and shows it where it is small.
+fn shown(number: u64, case: &Case) -> String {
+    let frame = &case.frame;
+    let text = if text::fits(frame) { text::write(frame) } else { "too large for a text\n".to_string() };
+    let [work, components, entries] = case.lent().map(|list| list.len());
+    format!("frame {number}, lent {work}, {components}, {entries} words:\n{text}")
+}
+
+impl Frames {
+    fn add(&mut self, number: u64, case: &Case) {
+        let frame = &case.frame;
+        let (size, name) = (frame.half_edges(), || shown(number, case));
+        let ours = Told::by(case.lent(), |[work, components, entries]| archive::label_frame(frame, [work, components, entries]));
+        let expected = expected(case);
+        self.frames.add(&ours, &expected.told, size, name);
+        let stages = self.add_stages(number, case);
+        if let Some(run) = &expected.between {
+            self.run.add(stages.are_those_of(run), size, name);
+        }
+        if let Some(unchanged) = &expected.unchanged {
+            let same = ours == unchanged.told && stages.are_those_of(&unchanged.between);
+            self.add_unchanged(same, unchanged, size, name);
+        }
+        if ours.result.is_ok() {
+            self.most = [self.most[0].max(frame.corners()), self.most[1].max(size)];
+        }
+    }
+
+    fn add_stages(&mut self, number: u64, case: &Case) -> Stages {
+        let (size, name) = (case.frame.half_edges(), || shown(number, case));
+        let (ours, theirs) = (OURS.stages(&case.frame), RULED.stages(&case.frame));
+        self.classes.add(&ours.classes, &theirs.classes, size, name);
+        self.quads.add(&ours.quads, &theirs.quads, size, name);
+        if let (Some(ours), Some(theirs)) = (&ours.kept, &theirs.kept) {
+            let pairs = ours.iter().zip(theirs);
+            self.kept.iter_mut().zip(pairs).for_each(|(kept, (ours, theirs))| kept.add(ours, theirs, size, name));
+        }
+        ours
+    }
+
+    fn add_unchanged(&mut self, same: bool, unchanged: &Unchanged, size: usize, name: impl Fn() -> String) {
+        let scope = unchanged.scope;
+        let counted = [scope.letter, scope.narrow, !scope.letter && !scope.narrow];
+        let tallies = self.unchanged.iter_mut().zip(counted).filter(|(_, counted)| *counted);
+        tallies.for_each(|(tally, _)| tally.add(same, size, &name));
+    }
+
+    fn print(&self, name: &str) {
+        self.frames.print(name, &["components", "entries"]);
+        println!("  at most {} corners and {} half-edges", self.most[0], self.most[1]);
+        self.classes.print("classes", &["classes"]);
+        self.quads.print("quads", &["quads"]);
+        self.kept.iter().zip(FILTERS).for_each(|(kept, name)| kept.print(name, &["kept"]));
+        self.run.print("these stages beside those of the whole run");
+        let [letter, narrow, outside] = &self.unchanged;
+        letter.print("beside the unchanged Rust, in scope by the letter");
+        narrow.print("beside the unchanged Rust, in scope by the narrow reading");
+        outside.print_counts("beside the unchanged Rust, out of both");
+    }
+}
+
+fn check(name: &str, count: u64, case: impl Fn(u64) -> Case) {
+    let mut frames = Frames::default();
+    for number in 0..count {
+        frames.add(number, &case(number));
+        if (number + 1) % PROGRESS == 0 {
+            eprintln!("{} of {count}", number + 1);
+        }
+    }
+    frames.print(name);
+}
+
+/// Frames of all kinds and sizes, some damaged, some with too short lists.
+pub fn frames(count: u64, seed: u64) {
+    check("frames", count, |number| drawn(seed, number as usize).case);
+}
+
+/// A grid that is closed both ways and has as many corners and half-edges as there may be, each corner moved by up to a drawn reach.
+fn full(seed: u64, number: u64) -> Case {
+    let mut random = Random::part(seed, number);
+    let mut frame = torus(MOST_CORNERS, &mut random);
+    let reach = random.pick(&[0.0, 0.0, 0.5, 2.0]);
+    frame.x.iter_mut().chain(&mut frame.y).for_each(|place| *place += random.within(-reach, reach) as f32);
+    if random.one_in(DAMAGED) {
+        let row = random.between(1, 7) as u32;
+        damage(row, &mut frame, &mut random);
+    }
+    lend(frame, &mut random)
+}
+
+/// Frames at the limits.
+pub fn full_frames(count: u64, seed: u64) {
+    check("full frames", count, |number| full(seed, number));
+}
