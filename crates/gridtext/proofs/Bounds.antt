@@ -20,7 +20,7 @@ use Rattle.gridtext.specs.Held.{Holds, Printable, Readable, mostBytes}
 use Rattle.gridtext.proofs.Joining.{joined, entryPiece, entries-joined, componentPiece}
 use Rattle.gridtext.proofs.Reading.{readable, componentWord, componentFields, component-parts, countWord, answer-parts}
 
-digits-most : (n : ℕ) → IsWord n → length (decimalOf n) ≤ 10
+pub digits-most : (n : ℕ) → IsWord n → length (decimalOf n) ≤ 10
 digits-most n h = omega (arith, decimal-places n (places n) (fewest n), word-places n h)
 
 -- ---- lines

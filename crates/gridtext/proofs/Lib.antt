@@ -11,3 +11,11 @@ pub mod Printing
 pub mod Joining
 pub mod Reading
 pub mod Bounds
+pub mod Filling
+pub mod FewEntries
+pub mod Unpacking
+pub mod NeverShort
+pub mod Answering
+pub mod OneAnswer
+pub mod DocumentAnswer
+pub mod FirstBytes

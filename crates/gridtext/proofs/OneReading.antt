@@ -62,7 +62,7 @@ front-fits ls before more l fits e = go ls before fits (e ∙ sym (append-assoc 
     go ks [] (Fitting.some f within) q = build f l [] within q
     go ks (b ∷ bs) (Fitting.some f within) q = build f b (bs ++ (l ∷ [])) within q
 
-fitting-words : {ls : List Line} → Fitting ls → Words ls
+pub fitting-words : {ls : List Line} → Fitting ls → Words ls
 fitting-words Fitting.none l i = not-in i
 fitting-words (Fitting.some f within) l i = within .words l i
 

@@ -5,3 +5,6 @@ pub mod Read
 pub mod Answer
 pub mod Printed
 pub mod Held
+pub mod Lists
+pub mod Gridlabel
+pub mod Unpacked

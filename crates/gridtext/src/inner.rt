@@ -1,5 +1,5 @@
-// The reader of a text, for a caller that lends lists with room for the most lines that a text may have; and, in `print`, the answer as
-// text.
+// The reader of a text, for a caller that lends lists with room for the most lines that a text may have; in `label`, the labelling of the
+// frame read; and in `print`, the answer as text.
 ghost use mathlib.Core.Path.{_≡_};
 ghost use mathlib.Core.List.{[], _∷_};
 ghost use Prim.Native.Nat.{_≤_};
@@ -13,10 +13,12 @@ use line::line_at;
 use lines::lines_at;
 use row::Sort;
 
+pub mod label;
 pub mod line;
 pub mod lines;
 pub mod print;
 pub mod row;
+pub mod unpack;
 
 // The parameters whose words the list begins with.
 fn params_of(words: &[u32; 8]) -> ParamWords

@@ -1,4 +1,16 @@
-// A frame's text, read: the lines that document 01 gives it. `inner` reads one into lists that the caller lends.
+// A frame's text to its answer's text: `answer` is the program `gridlabel` but for its input and output. `inner` has the reader, the
+// labelling and the printer apart.
+ghost use Prim.Native.Nat.{_≤_};
+ghost use lib.ListN.{length};
+ghost use Rattle.gridtext.specs.Text.{Frame};
+ghost use Rattle.gridtext.specs.Gridlabel.{Answered};
+ghost use Rattle.gridtext.specs.Unpacked.{mostText, Standing, AnswersStanding};
+use inner::label::label_lines;
+use inner::print::print_bad;
+use inner::print::print_components;
+use inner::print::print_refused;
+use walk::Labelled;
+
 pub mod inner;
 
 // The P line: floats by their bits, then the least quads and corners.
@@ -23,4 +35,34 @@ pub struct FrameRead {
 pub enum Parsed {
     Bad(u32),
     Read(FrameRead),
+}
+
+// Labels the frame, and prints what became of it. There is room for 128 components and 512 entries of three words each, and no frame of 256
+// triangles has more (proofs/NeverShort).
+fn labelled(corners: &[u32], triangles: &[u32], frame: FrameRead, out: &mut [u8]) -> usize
+    requires { ⌜ ((f : Frame) × Standing (now corners) (now triangles) frame f) × (mostText ≤ length (now out)) ⌝ }
+    ensures { λ r. ⌜ AnswersStanding (now (corners .entry)) (now (triangles .entry)) frame (now (out .entry)) (now (out .exit)) r ⌝ }
+{
+    let mut components = [0u32; 384];
+    let mut entries = [0u32; 1536];
+    let answer = label_lines(corners, triangles, frame, &mut components, &mut entries);
+    match answer {
+        Labelled::Done(count, _) => print_components(&components, &entries, count, out),
+        Labelled::Refused(why) => print_refused(why, out),
+    }
+}
+
+// The answer to a text, at the front of a list that has room for the longest; answers how long it is. Its lines have room for 128 corners
+// of eight words and 256 triangles of six.
+pub fn answer(text: &[u8], out: &mut [u8]) -> usize
+    requires { ⌜ mostText ≤ length (now out) ⌝ }
+    ensures { λ r. ⌜ Answered (now (text .entry)) (now (out .entry)) (now (out .exit)) r ⌝ }
+{
+    let mut corners = [0u32; 1024];
+    let mut triangles = [0u32; 1536];
+    let parsed = inner::read(text, &mut corners, &mut triangles);
+    match parsed {
+        Parsed::Bad(line) => print_bad(line, out),
+        Parsed::Read(frame) => labelled(&corners, &triangles, frame, out),
+    }
 }
