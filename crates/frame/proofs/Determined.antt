@@ -22,7 +22,7 @@ use Rattle.frame.specs.Call.Allowed.{refused, labelled}
 pub labelled-under : (i : Input) (out : List (List Entry)) (marks : List ℕ) → Marked (filtering i) marks → Answer i out → labels.Answer (labelling i (keptOf (filtering i) marks)) out
 labelled-under i out marks marked a = subst (λ (m : List ℕ). labels.Answer (labelling i (keptOf (filtering i) m)) out) (marks-determined (filtering i) (a .marks) marks (a .marked) marked) (a .labelled)
 
-one-answer : (i : Input) (out other : List (List Entry)) → Answer i out → Answer i other → out ≡ other
+pub one-answer : (i : Input) (out other : List (List Entry)) → Answer i out → Answer i other → out ≡ other
 one-answer i out other a b = one-out (labelling i (keptOf (filtering i) (b .marks))) out other (labelled-under i out (b .marks) (b .marked) a) (b .labelled)
 
 pub determined : (i : Input) (work components entries : List ℕ) (o p : Outcome) → Allowed i work components entries o → Allowed i work components entries p → o ≡ p

@@ -2,7 +2,7 @@
 -- printed; and a text printed at the front of the list is the answer. Assumes nothing.
 use mathlib.Core.Path.{_≡_, refl, sym, _∙_, subst}
 use mathlib.Core.List.{List}
-use Prim.Native.Nat.{ℕ, _*_, _≤_}
+use Prim.Native.Nat.{ℕ, _*_, _≤_, _<_}
 use native.Mathlib.Omega.{arith}
 use lib.ListN.{length}
 use lib.Seq.{length-take-le}
@@ -21,10 +21,10 @@ use Rattle.gridtext.specs.Text.{Frame, Within, Reads, Bad}
 use Rattle.gridtext.specs.Read.{Parses}
 use Rattle.gridtext.specs.Lists.{inputOf}
 use Rattle.gridtext.specs.Answer.{refusedText}
-use Rattle.gridtext.specs.Gridlabel.{Answers, Answered}
+use Rattle.gridtext.specs.Gridlabel.{Answers, mostText, Answered}
 use Rattle.gridtext.specs.Held.{Printable, PrintsHeld, mostBytes}
 use Rattle.gridtext.specs.Printed.{Printed}
-use Rattle.gridtext.specs.Unpacked.{mostComponents, mostEntries, workWords, mostText, Standing, Labels}
+use Rattle.gridtext.specs.Unpacked.{mostComponents, mostEntries, workWords, Standing, Labels}
 use Rattle.gridtext.proofs.NeverShort.{small-answer, never-short}
 
 -- ---- the call
@@ -49,8 +49,12 @@ module _ (f : Frame) (within : Within f) (work components entries : List ℕ) (w
 
 -- ---- printed
 
-pub answered : {text before after t : List ℕ} {end : ℕ} → Answers text t → Printed before after 0 t end → Answered text before after end
-answered {text} {before} {after} {t} {end} a p = record { answers = subst (Answers text) (sym (p .is)) a; within = p .within; whole = sym (length-take-le end after (p .within)); rest = p .rest }
+pub answered : {text before after t : List ℕ} {end : ℕ} → mostText ≤ length before → Answers text t → Printed before after 0 t end → Answered text before after end
+answered {text} {before} {after} {t} {end} h a p = record { answers = λ _. subst (Answers text) (sym (p .is)) a; short = λ l. absurd (omega arith); within = p .within; whole = sym (length-take-le end after (p .within)); rest = p .rest }
+
+-- in a shorter list nothing is written
+pub unanswered : {text before : List ℕ} → length before < mostText → Answered text before before 0
+unanswered h = record { answers = λ l. absurd (omega arith); short = λ _. refl; within = omega arith; whole = refl; rest = refl }
 
 module _ {components₀ components entries₀ entries : List ℕ} (f : Frame) (within : Within f) where
   pub printable : (answer : Labelled) (k l room : ℕ) → answer ≡ Done k l → mostText ≤ room → Labels (inputOf f) components₀ components entries₀ entries answer → Printable components entries k room
@@ -61,17 +65,17 @@ module _ {components₀ components entries₀ entries : List ℕ} (f : Frame) (w
       let same : k ≡ count = cc in
       record { answer = out; holds = record { past = _; rest = _; components-are = w .components-are; entries-are = w .entries-are; count-is = same ∙ c }; fits = omega (arith, n .0, n .1) }
 
-  module _ {text before after : List ℕ} (reads : Reads text f) where
+  module _ {text before after : List ℕ} (reads : Reads text f) (h : mostText ≤ length before) where
     pub answered-components : {end : ℕ} (answer : Labelled) (k l : ℕ) → answer ≡ Done k l → Labels (inputOf f) components₀ components entries₀ entries answer → PrintsHeld components entries k before after end → Answered text before after end
     answered-components answer k l e (Labels.refused s p q) prints = let z : _≡_ {A = ℕ} 0 1 = cc in absurd (omega arith)
     answered-components answer k l e (Labels.labelled {k = count} through out a w c d) prints =
         let same : k ≡ count = cc in
-        answered (Answers.labelled f reads through out a) (prints out (record { past = _; rest = _; components-are = w .components-are; entries-are = w .entries-are; count-is = same ∙ c }))
+        answered h (Answers.labelled f reads through out a) (prints out (record { past = _; rest = _; components-are = w .components-are; entries-are = w .entries-are; count-is = same ∙ c }))
 
     pub answered-refusal : {end : ℕ} (answer : Labelled) (why : Refusal) → answer ≡ Refused why → Labels (inputOf f) components₀ components entries₀ entries answer → Printed before after 0 (refusedText why) end → Answered text before after end
     answered-refusal answer why e (Labels.refused {why = other} s p q) printed =
         let same : other ≡ why = cc in
-        answered (Answers.refused f reads why (rw same at s)) printed
+        answered h (Answers.refused f reads why (rw same at s)) printed
     answered-refusal answer why e (Labels.labelled through out a w c d) printed = let z : _≡_ {A = ℕ} 0 1 = cc in absurd (omega arith)
 
 -- ---- read

@@ -10,8 +10,7 @@ use Rattle.cells.specs.Listed.{In}
 use Rattle.digits.specs.Digits.{hexOf, decimalOf}
 use Rattle.gridtext.specs.Lines.{Field, Line, fieldOf, spaced, lineOf, printed, IsWord, WordField, LineWords}
 use Rattle.gridtext.specs.Text.{Frame, linesOf, Within, Fitting, Reads, Bad}
-use Rattle.gridtext.specs.Gridlabel.{Answers}
-use Rattle.gridtext.specs.Unpacked.{mostText}
+use Rattle.gridtext.specs.Gridlabel.{Answers, mostText}
 use Rattle.gridtext.proofs.Bounds.{digits-most}
 use Rattle.gridtext.proofs.OneLine.{Words}
 use Rattle.gridtext.proofs.OneReading.{fitting-words}

@@ -22,8 +22,7 @@ use Rattle.gridtext.specs.Read.{cornerWords, triangleWords, allWords, fr
 use Rattle.gridtext.specs.Lists.{inputOf}
 use Rattle.gridtext.specs.Gridlabel.{Answered}
 
--- what the program's own lists have room for: components, entries, words of workspace (16 for each of 768 half-edges and 128 corners), and
--- bytes of text
+-- what the program's own lists have room for: components, entries, and words of workspace (16 for each of 768 half-edges and 128 corners)
 abbrev pub mostComponents : ℕ
 mostComponents = 128
 
@@ -32,9 +31,6 @@ mostEntries = 512
 
 abbrev pub workWords : ℕ
 workWords = 14336
-
-abbrev pub mostText : ℕ
-mostText = 65536
 
 -- the lists begin with the words of the frame's lines
 pub record Standing (corners triangles : List ℕ) (r : FrameRead) (f : Frame) : Type 0 where

@@ -14,11 +14,11 @@ use lines::lines_at;
 use row::Sort;
 
 pub mod label;
-pub mod line;
-pub mod lines;
+mod line;
+mod lines;
 pub mod print;
-pub mod row;
-pub mod unpack;
+mod row;
+mod unpack;
 
 // The parameters whose words the list begins with.
 fn params_of(words: &[u32; 8]) -> ParamWords

@@ -3,8 +3,8 @@
 ghost use Prim.Native.Nat.{_≤_};
 ghost use lib.ListN.{length};
 ghost use Rattle.gridtext.specs.Text.{Frame};
-ghost use Rattle.gridtext.specs.Gridlabel.{Answered};
-ghost use Rattle.gridtext.specs.Unpacked.{mostText, Standing, AnswersStanding};
+ghost use Rattle.gridtext.specs.Gridlabel.{mostText, Answered};
+ghost use Rattle.gridtext.specs.Unpacked.{Standing, AnswersStanding};
 use inner::label::label_lines;
 use inner::print::print_bad;
 use inner::print::print_components;
@@ -12,6 +12,9 @@ use inner::print::print_refused;
 use walk::Labelled;
 
 pub mod inner;
+
+// Room for every answer, in bytes.
+const MOST_TEXT: usize = 65536;
 
 // The P line: floats by their bits, then the least quads and corners.
 pub struct ParamWords {
@@ -52,12 +55,14 @@ fn labelled(corners: &[u32], triangles: &[u32], frame: FrameRead, out: &mut [u8]
     }
 }
 
-// The answer to a text, at the front of a list that has room for the longest; answers how long it is. Its lines have room for 128 corners
-// of eight words and 256 triangles of six.
+// The answer to a text, at the front of the list; answers how long it is. In a list of fewer than 65,536 bytes nothing is written, and
+// 0 is answered. The lines read have room for 128 corners of eight words and 256 triangles of six.
 pub fn answer(text: &[u8], out: &mut [u8]) -> usize
-    requires { ⌜ mostText ≤ length (now out) ⌝ }
     ensures { λ r. ⌜ Answered (now (text .entry)) (now (out .entry)) (now (out .exit)) r ⌝ }
 {
+    if out.len() < MOST_TEXT {
+        return 0;
+    }
     let mut corners = [0u32; 1024];
     let mut triangles = [0u32; 1536];
     let parsed = inner::read(text, &mut corners, &mut triangles);

@@ -35,13 +35,13 @@ same-length : tie.Need-same-length
 same-length c = search needs
 
 returns : tie.Need-returns
-returns c = λ f standing text reads. answered-components f (standing .within) reads _ _ _ (c .before .before .before .before .before .before .before .answer .given .1) (c .before .before .before .before .before .before .before .before .before .before .before .label-lines .ensures f standing) (c .before .before .print-components .ensures)
+returns c = λ f standing text reads. answered-components f (standing .within) reads (c .before .before .before .before .before .before .before .before .before .before .before .before .before .before .before .before .before .pre .1) _ _ _ (c .before .before .before .before .before .before .before .answer .given .1) (c .before .before .before .before .before .before .before .before .before .before .before .label-lines .ensures f standing) (c .before .before .print-components .ensures)
 
 same-length-2 : tie.Need-same-length-2
 same-length-2 c = search needs
 
 returns-2 : tie.Need-returns-2
-returns-2 c = λ f standing text reads. answered-refusal f (standing .within) reads _ _ (c .before .before .before .before .before .answer2 .given .1) (c .before .before .before .before .before .before .before .before .before .label-lines .ensures f standing) (c .before .before .print-refused .ensures)
+returns-2 c = λ f standing text reads. answered-refusal f (standing .within) reads (c .before .before .before .before .before .before .before .before .before .before .before .before .before .before .before .pre .1) _ _ (c .before .before .before .before .before .answer2 .given .1) (c .before .before .before .before .before .before .before .before .before .label-lines .ensures f standing) (c .before .before .print-refused .ensures)
 
 pub labelled-spec : {M : Type 1} → statement M
 labelled-spec =

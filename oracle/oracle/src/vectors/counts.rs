@@ -66,3 +66,19 @@ impl fmt::Display for Most {
         writeln!(f, "  most corners {corners}, quads {quads}, workspace {work}")
     }
 }
+
+/// The lines that tell groups by their fate, and components: empty ones, those with holes, all.
+pub fn tell_groups(
+    f: &mut fmt::Formatter<'_>,
+    fates: [usize; 4],
+    components: [usize; 3],
+) -> fmt::Result {
+    let [few_quads, unlabelled, few_lone, kept] = fates;
+    writeln!(
+        f,
+        "  groups with too few quads {few_quads}, without a labelling {unlabelled}, \
+         with too few lone corners {few_lone}, kept {kept}"
+    )?;
+    let [empty, holed, all] = components;
+    writeln!(f, "  components {all}, of which {empty} empty, {holed} with holes")
+}

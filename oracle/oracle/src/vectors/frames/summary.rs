@@ -5,7 +5,7 @@ use std::fmt;
 use super::Case;
 use crate::demand::fates;
 use crate::stages::Build;
-use crate::vectors::counts::Counts;
+use crate::vectors::counts::{tell_groups, Counts};
 use crate::vectors::{Summed, Vector};
 
 #[derive(Default)]
@@ -79,14 +79,7 @@ impl fmt::Display for Summary {
         )?;
         let [made, one, two, three] = self.quads;
         writeln!(f, "  quads {made}, dropped by the filters {one}, {two}, {three}")?;
-        let [few_quads, unlabelled, few_lone, kept] = self.fates;
-        writeln!(
-            f,
-            "  groups with too few quads {few_quads}, without a labelling {unlabelled}, \
-             with too few lone corners {few_lone}, kept {kept}"
-        )?;
-        let [empty, holed, all] = self.components;
-        writeln!(f, "  components {all}, of which {empty} empty, {holed} with holes")?;
+        tell_groups(f, self.fates, self.components)?;
         writeln!(f, "  longest lists {:?}", self.longest)
     }
 }

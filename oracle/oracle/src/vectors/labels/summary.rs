@@ -4,7 +4,7 @@ use std::fmt;
 
 use super::Case;
 use crate::demand::fates;
-use crate::vectors::counts::{Counts, Most};
+use crate::vectors::counts::{tell_groups, Counts, Most};
 use crate::vectors::{OverQuads, Summed, Vector};
 
 #[derive(Default)]
@@ -46,14 +46,7 @@ impl Summed<Case> for Summary {
 impl fmt::Display for Summary {
     fn fmt(&self, f: &mut fmt::Formatter<'_>) -> fmt::Result {
         write!(f, "labels: {}", self.counts)?;
-        let [few_quads, unlabelled, few_lone, kept] = self.fates;
-        writeln!(
-            f,
-            "  groups with too few quads {few_quads}, without a labelling {unlabelled}, \
-             with too few lone corners {few_lone}, kept {kept}"
-        )?;
-        let [empty, holed, all] = self.components;
-        writeln!(f, "  components {all}, of which {empty} empty, {holed} with holes")?;
+        tell_groups(f, self.fates, self.components)?;
         self.most.fmt(f)
     }
 }
