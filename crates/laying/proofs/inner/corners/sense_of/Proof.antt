@@ -14,10 +14,10 @@ corner-of-requires-2 : tie.Need-corner-of-requires-2
 corner-of-requires-2 c κs = search needs
 
 returns : tie.Need-returns
-returns c = rw (← c .before .before .corner-of .ensures .0, ← c .before .corner-of2 .ensures .0, lt-ltb _ _ (c .if1 .taken))
+returns c = rw (← c .before .before .corner-of .ensures .0, ← c .before .corner-of2 .ensures .0, lt-ltb (c .before .before .corner-of .result) (c .before .corner-of2 .result) (c .if1 .taken))
 
 returns-2 : tie.Need-returns-2
-returns-2 c = rw (← c .before .before .corner-of .ensures .0, ← c .before .corner-of2 .ensures .0, le-ltb _ _ (c .if1 .left))
+returns-2 c = rw (← c .before .before .corner-of .ensures .0, ← c .before .corner-of2 .ensures .0, le-ltb (c .before .before .corner-of .result) (c .before .corner-of2 .result) (c .if1 .left))
 
 pub sense-of-spec : {M : Type 1} → statement M
 sense-of-spec =
