@@ -5,18 +5,13 @@ use crate::archive;
 use crate::stages::{Stages, OURS, RULED};
 use crate::tally::{Beside, Tally};
 use oracle::frames::{drawn, expected, Unchanged};
-use oracle::generate::{damage::damage, torus};
-use oracle::judge::MOST_CORNERS;
-use oracle::random::Random;
+use oracle::judge::{MOST_CORNERS, MOST_HALF_EDGES};
 use oracle::text;
 use oracle::told::Told;
-use oracle::vectors::frames::{lend, Case};
+use oracle::vectors::frames::Case;
 
 /// So many frames, then a line that says how far it is.
 const PROGRESS: u64 = 10_000;
-
-/// One full frame in so many is damaged.
-const DAMAGED: usize = 10;
 
 /// What the filters' three calls on a frame are named.
 const FILTERS: [&str; 3] = ["first filter", "first two filters", "all filters"];
@@ -32,8 +27,8 @@ struct Frames {
     run: Tally,
     /// The frame and its stages beside the unchanged Rust's: in scope by the letter, by the narrow reading, out of both.
     unchanged: [Tally; 3],
-    /// The most corners and half-edges of an accepted frame.
-    most: [usize; 2],
+    /// Accepted frames with as many corners and half-edges as there may be.
+    full: u64,
 }
 
 /// Names a frame by its number, and shows it where it is small.
@@ -59,8 +54,8 @@ impl Frames {
             let same = ours == unchanged.told && stages.are_those_of(&unchanged.between);
             self.add_unchanged(same, unchanged, size, name);
         }
-        if ours.result.is_ok() {
-            self.most = [self.most[0].max(frame.corners()), self.most[1].max(size)];
+        if ours.result.is_ok() && frame.corners() == MOST_CORNERS && size == MOST_HALF_EDGES {
+            self.full += 1;
         }
     }
 
@@ -83,9 +78,9 @@ impl Frames {
         tallies.for_each(|(tally, _)| tally.add(same, size, &name));
     }
 
-    fn print(&self, name: &str) {
-        self.frames.print(name, &["components", "entries"]);
-        println!("  at most {} corners and {} half-edges", self.most[0], self.most[1]);
+    fn print(&self) {
+        self.frames.print("frames", &["components", "entries"]);
+        println!("  accepted with {MOST_CORNERS} corners and {MOST_HALF_EDGES} half-edges: {}", self.full);
         self.classes.print("classes", &["classes"]);
         self.quads.print("quads", &["quads"]);
         self.kept.iter().zip(FILTERS).for_each(|(kept, name)| kept.print(name, &["kept"]));
@@ -97,36 +92,14 @@ impl Frames {
     }
 }
 
-fn check(name: &str, count: u64, case: impl Fn(u64) -> Case) {
+/// Frames of all kinds and sizes up to the limits, some damaged, some with too short lists.
+pub fn check(count: u64, seed: u64) {
     let mut frames = Frames::default();
     for number in 0..count {
-        frames.add(number, &case(number));
+        frames.add(number, &drawn(seed, number as usize).case);
         if (number + 1) % PROGRESS == 0 {
             eprintln!("{} of {count}", number + 1);
         }
     }
-    frames.print(name);
-}
-
-/// Frames of all kinds and sizes, some damaged, some with too short lists.
-pub fn frames(count: u64, seed: u64) {
-    check("frames", count, |number| drawn(seed, number as usize).case);
-}
-
-/// A grid that is closed both ways and has as many corners and half-edges as there may be, each corner moved by up to a drawn reach.
-fn full(seed: u64, number: u64) -> Case {
-    let mut random = Random::part(seed, number);
-    let mut frame = torus(MOST_CORNERS, &mut random);
-    let reach = random.pick(&[0.0, 0.0, 0.5, 2.0]);
-    frame.x.iter_mut().chain(&mut frame.y).for_each(|place| *place += random.within(-reach, reach) as f32);
-    if random.one_in(DAMAGED) {
-        let row = random.between(1, 7) as u32;
-        damage(row, &mut frame, &mut random);
-    }
-    lend(frame, &mut random)
-}
-
-/// Frames at the limits.
-pub fn full_frames(count: u64, seed: u64) {
-    check("full frames", count, |number| full(seed, number));
+    frames.print();
 }

@@ -25,8 +25,8 @@ bench check pairs COUNT SEED  angles and distances beside document 01's rules in
 bench check filters COUNT SEED
                               the filters on drawn lists beside the ruled Rust, every word
 bench check labels COUNT SEED the labelling on drawn lists beside the Rust's walk, every word
-bench check frames COUNT SEED whole frames and their stages beside the ruled and the unchanged Rust, every word
-bench check full COUNT SEED   the same on frames of 4,096 corners and 24,576 half-edges";
+bench check frames COUNT SEED whole frames and their stages beside the ruled and the unchanged Rust, every word;
+                              one in 500 has 4,096 corners and 24,576 half-edges";
 
 fn number(word: Option<&String>, otherwise: u64) -> u64 {
     word.and_then(|w| w.parse().ok()).unwrap_or(otherwise)
@@ -45,8 +45,7 @@ fn main() {
         ["check", "roots"] => check::roots(),
         ["check", "filters", ..] => check_filters::FILTERS.check(count(100_000), seed),
         ["check", "labels", ..] => check_labels::LABELS.check(count(100_000), seed),
-        ["check", "frames", ..] => check_frames::frames(count(100_000), seed),
-        ["check", "full", ..] => check_frames::full_frames(count(200), seed),
+        ["check", "frames", ..] => check_frames::check(count(100_000), seed),
         ["check", "pairs", ..] => check::pairs(count(100_000_000), seed),
         _ => println!("{HELP}"),
     }

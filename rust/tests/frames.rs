@@ -67,8 +67,9 @@ fn a_frame_without_corners() {
 fn rows_1_to_7_come_before_the_workspace() {
     let rooms = [1, 1, 4];
     refused(Frame { twins: &SQUARE.twins[..5], ..SQUARE }, PARAMS, rooms, 1, 0, REST);
-    let half_edges = vec![0; 24_579];
-    refused(Frame { triangles: &half_edges, twins: &half_edges, ..SQUARE }, PARAMS, rooms, 2, 0, REST);
+    let many = vec![0.0; 8_194];
+    let (corners, axes) = (Positions { x: &many[..4_097], y: &many[..4_097] }, Axes { angles: &many, marks: &[0; 8_194], spreads: &many });
+    refused(Frame { corners, axes, ..SQUARE }, PARAMS, rooms, 2, 0, REST);
     let edges = EdgeParams { limit: f32::NAN, ..PARAMS.edges };
     refused(SQUARE, Params { edges, ..PARAMS }, rooms, 3, 4, REST);
     let filters = FilterParams { ratio: f32::NAN, least: f32::NAN, ..PARAMS.filters };
@@ -77,12 +78,54 @@ fn rows_1_to_7_come_before_the_workspace() {
     refused(Frame { corners, ..SQUARE }, PARAMS, rooms, 4, 3, REST);
     refused(Frame { triangles: &[0, 1, 2, 0, 2, 4], ..SQUARE }, PARAMS, rooms, 5, 5, REST);
     refused(Frame { triangles: &[0, 1, 2, 0, 2, 2], ..SQUARE }, PARAMS, rooms, 6, 1, REST);
-    let twins = &[NO_TWIN, NO_TWIN, 3, NO_TWIN, NO_TWIN, NO_TWIN];
-    refused(Frame { twins, ..SQUARE }, PARAMS, rooms, 7, 2, REST);
+    let twins = |word| [NO_TWIN, NO_TWIN, word, NO_TWIN, NO_TWIN, NO_TWIN];
+    refused(Frame { twins: &twins(6), ..SQUARE }, PARAMS, rooms, 7, 2, REST);
+    refused(Frame { twins: &twins(3), ..SQUARE }, PARAMS, rooms, 7, 2, REST);
+    refused(Frame { twins: &[NO_TWIN, NO_TWIN, 4, NO_TWIN, 2, NO_TWIN], ..SQUARE }, PARAMS, rooms, 7, 2, REST);
+}
+
+/// The square of document 01 so many times, apart from one another; then triangles without twins, so many in all.
+struct Squares {
+    x: Vec<f32>,
+    y: Vec<f32>,
+    triangles: Vec<u32>,
+    twins: Vec<u32>,
+}
+
+impl Squares {
+    fn of(squares: u32, triangles: u32) -> Squares {
+        let places = |own: &[f32], from: fn(u32) -> u32| (0..squares).flat_map(|k| own.iter().map(move |at| at + 20.0 * from(k) as f32)).collect();
+        let corners = |k: u32| SQUARE.triangles.iter().map(move |corner| corner + 4 * k);
+        let twins = |k: u32| SQUARE.twins.iter().map(move |&twin| if twin == NO_TWIN { NO_TWIN } else { twin + 6 * k });
+        let more = 3 * (triangles - 2 * squares);
+        Squares {
+            x: places(SQUARE.corners.x, |k| k % 32),
+            y: places(SQUARE.corners.y, |k| k / 32),
+            triangles: (0..squares).flat_map(corners).chain((0..more).map(|place| place % 3)).collect(),
+            twins: (0..squares).flat_map(twins).chain((0..more).map(|_| NO_TWIN)).collect(),
+        }
+    }
+}
+
+#[test]
+fn the_limits_themselves() {
+    let lists = Squares::of(1_024, 8_192);
+    let (angles, marks, spreads) = ([0.0, UP].repeat(4_096), [0; 8_192], [0.0; 8_192]);
+    let corners = Positions { x: &lists.x, y: &lists.y };
+    let axes = Axes { angles: &angles, marks: &marks, spreads: &spreads };
+    let frame = Frame { corners, axes, triangles: &lists.triangles, twins: &lists.twins };
+    let (answer, work, components, entries) = labelled(frame, PARAMS, [16 * (24_576 + 4_096), 1_024, 4_096]);
+    assert_eq!(answer, Ok(Counts { components: 1_024, entries: 4_096 }));
+    assert!(work.iter().all(|&word| word == 0));
+    assert_eq!(components[1_023], Component { before: 4_092, entries: 4, holes: 0 });
+    assert_eq!(entries[4_095], Entry { u: 1, v: 1, corner: 4_094 });
+    let above = Squares::of(1_024, 8_193);
+    refused(Frame { triangles: &above.triangles, twins: &above.twins, ..frame }, PARAMS, [1, 1, 4], 2, 0, REST);
 }
 
 #[test]
 fn lists_without_room() {
+    assert!(labelled(SQUARE, PARAMS, [160, 1, 4]).0.is_ok());
     refused(SQUARE, PARAMS, [159, 1, 4], 8, 160, REST);
     refused(SQUARE, PARAMS, [163, 0, 3], 9, 1, 0);
     refused(SQUARE, PARAMS, [160, 1, 3], 10, 4, 0);

@@ -6,13 +6,13 @@ use std::collections::HashSet;
 
 use crate::calls::{answer_frame, judge_frame};
 use crate::compare::frame_of;
-use crate::generate::{torus, KINDS};
+use crate::generate::{damage::damage, torus, KINDS};
 use crate::judge::{judge, MOST_CORNERS};
 use crate::near::{scope, Scope};
 use crate::random::Random;
 use crate::told::Told;
 use crate::vectors::frames::{lend, Case};
-use frame::{Component, Stages};
+use frame::{Component, Frame, Stages};
 
 /// A frame of a run, with the name of its kind, "damaged" among them.
 #[derive(Clone, Debug)]
@@ -52,12 +52,30 @@ pub struct Expected {
 /// One frame in so many has as many corners and half-edges as the limits allow.
 const FULL: usize = 500;
 
+/// One of those in so many is damaged.
+const FULL_DAMAGED: usize = 10;
+
+/// A grid that is closed both ways and has as many corners and half-edges as there may be, each
+/// corner moved by up to a drawn reach.
+fn full(random: &mut Random) -> (&'static str, Frame) {
+    let mut frame = torus(MOST_CORNERS, random);
+    let reach = random.pick(&[0.0, 0.0, 0.5, 2.0]);
+    let places = frame.x.iter_mut().chain(&mut frame.y);
+    places.for_each(|place| *place += random.within(-reach, reach) as f32);
+    if !random.one_in(FULL_DAMAGED) {
+        return ("torus", frame);
+    }
+    let row = random.between(1, 7) as u32;
+    damage(row, &mut frame, random);
+    ("damaged", frame)
+}
+
 /// Frame number `number` of a run: all kinds in turn, of many sizes, the last of each turn damaged;
 /// workspace and room mostly enough, at times short.
 pub fn drawn(seed: u64, number: usize) -> Drawn {
     let mut random = Random::part(!seed, number as u64);
     let (kind, frame) = if number % FULL == FULL - 1 {
-        ("torus", torus(MOST_CORNERS, &mut random))
+        full(&mut random)
     } else {
         let (place, frame, _) = frame_of(seed, number);
         (KINDS.get(place).map_or("damaged", |kind| kind.0), frame)
