@@ -1,25 +1,19 @@
 -- Reading undoes writing: the digits that `hexOf` gives spell the word again.
-use mathlib.Core.Bool.{Bool, true, false}
 use mathlib.Core.Path.{_≡_, refl}
 use Prim.Native.Nat.{ℕ, _+_, _*_, _<_, _%_, _/_}
 use native.Mathlib.Omega.{arith}
-use borrow.Author.Tests.{lt-ltb, le-ltb, ltb-true, ltb-false}
-use lib.Dec.{ltb}
-use Rattle.vectors.specs.Hex.{valueOf, wordAt, digitOf, hexOf}
-
-value-by : (v : ℕ) → v < 16 → (t : Bool) → ltb v 10 ≡ t → valueOf (digitOf v) ≡ v
-unfolding valueOf
-value-by v h true e =
-    let l : v < 10 = ltb-true v 10 e in
-    rw (e, le-ltb (v + 48) 48 (omega arith), lt-ltb (v + 48) 58 (omega arith)) (omega arith)
-value-by v h false e =
-    let l = ltb-false v 10 e in
-    rw (e, le-ltb (v + 55) 48 (omega arith), le-ltb (v + 55) 58 (omega arith))
-    (rw (le-ltb (v + 55) 65 (omega arith), lt-ltb (v + 55) 71 (omega arith)) (omega arith))
+use borrow.Author.Tests.{lt-ltb, le-ltb}
+use Rattle.digits.specs.Digits.{digitOf, hexOf}
+use Rattle.digits.proofs.Numerals.{by-digit}
+use Rattle.vectors.specs.Hex.{valueOf, wordAt}
 
 -- the value of a digit is the number that it stands for
 pub value-of-digit : (v : ℕ) → v < 16 → valueOf (digitOf v) ≡ v
-value-of-digit v h = value-by v h (ltb v 10) refl
+unfolding valueOf
+value-of-digit v h =
+    by-digit (digitOf v) v refl
+    (λ l e. rw (e, le-ltb (v + 48) 48 (omega arith), lt-ltb (v + 48) 58 (omega arith)) (omega arith))
+    (λ l e. rw (e, le-ltb (v + 55) 48 (omega arith), le-ltb (v + 55) 58 (omega arith), le-ltb (v + 55) 65 (omega arith), lt-ltb (v + 55) 71 (omega arith)) (omega arith))
 
 two-digits : (n : ℕ) → n / 16 % 16 * 16 + n % 16 ≡ n % 256
 two-digits n = omega arith

@@ -1,11 +1,12 @@
--- Words as text: eight upper-case hex digits, the highest first; and the line that tells a refusal.
+-- Words read from a text that has them as `hexOf` writes them, eight upper-case hex digits; and the line that tells a refusal.
 use mathlib.Core.Bool.{cond}
 use mathlib.Core.List.{List, [], _∷_, _++_}
-use Prim.Native.Nat.{ℕ, _+_, _*_, _-_, _/_, _%_}
+use Prim.Native.Nat.{ℕ, _+_, _*_, _-_}
 use lib.Dec.{leb, ltb}
 use lib.ListN.{length, getD}
 use Rattle.refusal.specs.declared.Refusal.{Refusal}
 use Rattle.refusal.specs.Table.{numberOf, placeOf}
+use Rattle.digits.specs.Digits.{hexOf}
 
 -- the value of a digit; any other byte counts as 0
 unfoldable pub valueOf : ℕ → ℕ
@@ -21,15 +22,6 @@ fourAt text at =
 -- the word whose digits begin at `at`; 0 where the text ends before its last
 unfoldable pub wordAt : List ℕ → ℕ → ℕ
 wordAt text at = cond (leb (at + 8) (length text)) (fourAt text at * 65536 + fourAt text (at + 4)) 0
-
-abbrev pub digitOf : ℕ → ℕ
-digitOf value = cond (ltb value 10) (value + 48) (value + 55)
-
-abbrev pub hexOf : ℕ → List ℕ
-hexOf word =
-    digitOf (word / 0x10000000 % 16) ∷ digitOf (word / 0x1000000 % 16) ∷ digitOf (word / 0x100000 % 16)
-    ∷ digitOf (word / 0x10000 % 16) ∷ digitOf (word / 0x1000 % 16) ∷ digitOf (word / 0x100 % 16)
-    ∷ digitOf (word / 0x10 % 16) ∷ digitOf (word % 16) ∷ []
 
 -- "refused", the row and the place
 unfoldable pub refusalLine : Refusal → List ℕ

@@ -3,7 +3,8 @@
 ghost use mathlib.Core.Path.{_≡_};
 ghost use Prim.Native.Nat.{_+_, _<_, _≤_};
 ghost use lib.ListN.{length};
-ghost use Rattle.vectors.specs.Hex.{valueOf, fourAt, wordAt, digitOf, hexOf, refusalLine};
+ghost use Rattle.digits.specs.Digits.{digitOf, hexOf};
+ghost use Rattle.vectors.specs.Hex.{valueOf, fourAt, wordAt, refusalLine};
 use refusal::Refusal;
 
 pub mod inner;
