@@ -3,32 +3,12 @@ ghost use Prim.Native.Nat.{_≤_};
 ghost use lib.ListN.{length};
 ghost use Rattle.vectors.specs.Lists.{Onward};
 use fates::LabelParams;
+use told::inner::lend;
+use told::inner::write_told;
 use vectors::inner::list::after;
 use vectors::inner::list::fill;
 use vectors::inner::list::say_over;
-use vectors::inner::runs::write_refusal;
-use vectors::inner::runs::write_runs;
 use vectors::word_at;
-use walk::Labelled;
-
-fn write_counts(components: u32, entries: u32) {
-    io::write_all(1, b"done ");
-    io::print_decimal(1, components as u64);
-    io::write_all(1, b" ");
-    io::print_decimal(1, entries as u64);
-    io::write_all(1, b"\n");
-}
-
-fn write_answer(answer: Labelled) {
-    match answer {
-        Labelled::Done(components, entries) => {
-            write_counts(components, entries);
-        }
-        Labelled::Refused(why) => {
-            write_refusal(why);
-        }
-    }
-}
 
 fn label_lists(
     quads: &[u32],
@@ -39,79 +19,30 @@ fn label_lists(
     entries: &mut [u32],
 ) {
     let answer = walk::label_components(quads, corners, params, work, components, entries);
-    write_answer(answer);
-    write_runs(work);
-    write_runs(components);
-    write_runs(entries);
+    write_told(answer, work, components, entries);
 }
 
-// The room for entries, which ends the case.
-fn with_entries(
-    text: &[u8],
-    at: usize,
-    quads: &[u32],
-    corners: u32,
-    params: LabelParams,
-    work: &mut [u32],
-    components: &mut [u32],
-) -> usize
-    requires { ⌜ at ≤ length (now text) ⌝ }
-    ensures { λ r. ⌜ Onward (now (text .entry)) at r ⌝ }
-{
-    let mut entries = [0u32; 49164];
-    let in_entries = fill(text, at, &mut entries);
-    let n_entries = in_entries.length;
-    label_lists(
-        quads,
-        corners,
-        params,
-        work,
-        components,
-        &mut entries[..n_entries],
-    );
-    in_entries.next
-}
-
-fn with_components(
-    text: &[u8],
-    at: usize,
-    quads: &[u32],
-    corners: u32,
-    params: LabelParams,
-    work: &mut [u32],
-) -> usize
-    requires { ⌜ at ≤ length (now text) ⌝ }
-    ensures { λ r. ⌜ Onward (now (text .entry)) at r ⌝ }
-{
-    let mut components = [0u32; 12300];
-    let in_components = fill(text, at, &mut components);
-    let n_components = in_components.length;
-    with_entries(
-        text,
-        in_components.next,
-        quads,
-        corners,
-        params,
-        work,
-        &mut components[..n_components],
-    )
-}
-
-fn with_work(text: &[u8], at: usize, quads: &[u32], corners: u32, params: LabelParams) -> usize
+// The lists that the call is lent, which end the case.
+fn with_lent(text: &[u8], at: usize, quads: &[u32], corners: u32, params: LabelParams) -> usize
     requires { ⌜ at ≤ length (now text) ⌝ }
     ensures { λ r. ⌜ Onward (now (text .entry)) at r ⌝ }
 {
     let mut work = [0u32; 196656];
-    let in_work = fill(text, at, &mut work);
-    let n_work = in_work.length;
-    with_components(
-        text,
-        in_work.next,
+    let mut components = [0u32; 12300];
+    let mut entries = [0u32; 49164];
+    let lent = lend(text, at, &mut work, &mut components, &mut entries);
+    let n_work = lent.work;
+    let n_components = lent.components;
+    let n_entries = lent.entries;
+    label_lists(
         quads,
         corners,
         params,
         &mut work[..n_work],
-    )
+        &mut components[..n_components],
+        &mut entries[..n_entries],
+    );
+    lent.next
 }
 
 // The least quads, the least corners, the number of corners and the words of quads; the quads are said over up to so many words.
@@ -128,5 +59,5 @@ pub(crate) fn replay(text: &[u8], at: usize) -> usize
     let mut quads = [0u32; 16392];
     let in_quads = fill(text, after(text, at, 4), &mut quads);
     let n_quads = say_over(&mut quads, in_quads.length, words);
-    with_work(text, in_quads.next, &quads[..n_quads], corners, params)
+    with_lent(text, in_quads.next, &quads[..n_quads], corners, params)
 }

@@ -11,7 +11,7 @@ use borrow.Author.Tests.{eq-eqb, ne-eqb, ltb-true, ltb-false}
 use lib.Dec.{ltb}
 use lib.ListN.{length, getD, length-append}
 use Rattle.io.specs.Digits.{digits, Fewest}
-use Rattle.vectors.specs.Lines.{placesIn, countLine, beginsAt, runsTo, runsOf, Run}
+use Rattle.vectors.specs.Lines.{placesIn, decimalOf, countLine, countsLine, beginsAt, runsTo, runsOf, Run}
 
 power-above : (j : ℕ) → j < 10 ^ j
 power-above zero = omega arith
@@ -54,11 +54,16 @@ length-digits : (k n : ℕ) → length (digits 10 k n) ≡ k
 length-digits zero n = refl
 length-digits (suc k) n = simp length-append (rw (length-digits k (n / 10)) (omega arith))
 
-pub count-length : (count k : ℕ) → Fewest 10 1 count k → k + 6 ≡ length (countLine count)
+pub decimal-length : (n k : ℕ) → Fewest 10 1 n k → k ≡ length (decimalOf n)
+decimal-length n k f = fewest-places n n k (omega arith) f ∙ sym (length-digits (placesIn n n) n)
+
+pub count-length : (count : ℕ) {k : ℕ} → k ≡ length (decimalOf count) → k + 6 ≡ length (countLine count)
 unfolding countLine
-count-length count k f =
-    let e = fewest-places count count k (omega arith) f in
-    simp (length-append, length-digits) (omega arith)
+count-length count e = simp length-append (omega (arith, e))
+
+pub counts-length : (first second : ℕ) {j k : ℕ} → j ≡ length (decimalOf first) → k ≡ length (decimalOf second) → j + k + 7 ≡ length (countsLine first second)
+unfolding countsLine
+counts-length first second e f = simp length-append (omega (arith, e, f))
 
 -- at a place after the first, the same word as before begins no run, and another does
 begins-same : (list : List ℕ) (k : ℕ) → getD list (suc k) 0 ≡ getD list k 0 → beginsAt list (suc k) ≡ 0

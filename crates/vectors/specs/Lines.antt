@@ -1,4 +1,4 @@
--- What the lines of the programs tell beside a refusal: a number of records in decimal, and a list as runs of equal words.
+-- What the lines of the programs tell beside a refusal: numbers of records in decimal, and a list as runs of equal words.
 use mathlib.Core.Bool.{cond}
 use mathlib.Core.List.{List, [], _∷_, _++_}
 use mathlib.Core.Path.{_≡_}
@@ -12,9 +12,16 @@ unfoldable pub placesIn : (turns : ℕ) → ℕ → ℕ
 placesIn zero n = 1
 placesIn (suc turns) n = cond (ltb n 10) 1 (suc (placesIn turns (n / 10)))
 
+abbrev pub decimalOf : ℕ → List ℕ
+decimalOf n = digits 10 (placesIn n n) n
+
 -- "done" and the number
 unfoldable pub countLine : ℕ → List ℕ
-countLine count = 100 ∷ 111 ∷ 110 ∷ 101 ∷ 32 ∷ (digits 10 (placesIn count count) count ++ (10 ∷ []))
+countLine count = 100 ∷ 111 ∷ 110 ∷ 101 ∷ 32 ∷ (decimalOf count ++ (10 ∷ []))
+
+-- "done" and both numbers
+unfoldable pub countsLine : ℕ → ℕ → List ℕ
+countsLine first second = 100 ∷ 111 ∷ 110 ∷ 101 ∷ 32 ∷ (decimalOf first ++ (32 ∷ (decimalOf second ++ (10 ∷ []))))
 
 -- 1 where a run begins at a place: the first, and each whose word differs from the word before
 unfoldable pub beginsAt : List ℕ → ℕ → ℕ

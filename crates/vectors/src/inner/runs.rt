@@ -1,10 +1,10 @@
-// Answers as lines: a refusal, a number of records, and a list as runs: the length of each maximal run of equal words, and the word.
+// Answers as lines: a refusal, numbers of records, and a list as runs: the length of each maximal run of equal words, and the word.
 // What goes to standard output no contract can say; each answers how much its line tells.
 ghost use mathlib.Core.Path.{_≡_};
-ghost use Prim.Native.Nat.{_<_};
+ghost use Prim.Native.Nat.{_+_, _<_, _≤_};
 ghost use lib.ListN.{length};
 ghost use Rattle.vectors.specs.Hex.{refusalLine};
-ghost use Rattle.vectors.specs.Lines.{countLine, runsOf, Run};
+ghost use Rattle.vectors.specs.Lines.{decimalOf, countLine, countsLine, runsOf, Run};
 use refusal::Refusal;
 
 // The line's number of bytes.
@@ -57,14 +57,34 @@ pub fn write_runs(list: &[u32]) -> usize
     runs
 }
 
+// How many digits it wrote.
+fn write_decimal(n: u32) -> usize
+    ensures { λ r. ⌜ (r ≡ length (decimalOf n)) × (r ≤ n + 1) ⌝ }
+{
+    let mut text = [0u8; 20];
+    let places = io::decimal(n as u64, &mut text);
+    io::write_all(1, &text[..places]);
+    places
+}
+
 // A number of records; answers the line's number of bytes.
 pub fn write_count(count: u32) -> usize
     ensures { λ r. ⌜ r ≡ length (countLine count) ⌝ }
 {
-    let mut text = [0u8; 20];
-    let places = io::decimal(count as u64, &mut text);
     io::write_all(1, b"done ");
-    io::write_all(1, &text[..places]);
+    let places = write_decimal(count);
     io::write_all(1, b"\n");
     places + 6
+}
+
+// Two numbers of records; the same.
+pub fn write_counts(first: u32, second: u32) -> usize
+    ensures { λ r. ⌜ r ≡ length (countsLine first second) ⌝ }
+{
+    io::write_all(1, b"done ");
+    let places = write_decimal(first);
+    io::write_all(1, b" ");
+    let more = write_decimal(second);
+    io::write_all(1, b"\n");
+    places + more + 7
 }
