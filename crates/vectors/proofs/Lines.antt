@@ -1,61 +1,20 @@
--- The lines' counts: the fewest decimal digits are `placesIn` many, a run that is told adds one to the runs, and a run has one end.
+-- The lines' counts: a number's line is as long as its digits and the bytes round them, a run that is told adds one to the runs.
 -- Assumes nothing.
-use mathlib.Core.Bool.{Bool, true, false}
 use mathlib.Core.Path.{_≡_, refl, sym, ap, _∙_, subst}
 use mathlib.Core.List.{List}
-use Prim.Native.Nat.{ℕ, zero, suc, _+_, _*_, _-_, _/_, _^_, _≤_, _<_}
-use native.Mathlib.Decide.{ℕ-discrete, decLt}
-use native.Mathlib.Numerals.{unary-clauses}
+use Prim.Native.Nat.{ℕ, zero, suc, _+_, _-_, _≤_, _<_}
+use native.Mathlib.Decide.{ℕ-discrete}
 use native.Mathlib.Omega.{arith}
-use borrow.Author.Tests.{eq-eqb, ne-eqb, ltb-true, ltb-false}
-use lib.Dec.{ltb}
+use borrow.Author.Tests.{eq-eqb, ne-eqb}
 use lib.ListN.{length, getD, length-append}
-use Rattle.io.specs.Digits.{digits, Fewest}
-use Rattle.vectors.specs.Lines.{placesIn, decimalOf, countLine, countsLine, beginsAt, runsTo, runsOf, Run}
+use Rattle.io.specs.Digits.{Fewest}
+use Rattle.digits.specs.Digits.{decimalOf}
+use Rattle.digits.proofs.Places.{places, fewest, one-fewest, word-places}
+use Rattle.vectors.specs.Lines.{countLine, countsLine, beginsAt, runsTo, runsOf, Run}
 
-power-above : (j : ℕ) → j < 10 ^ j
-power-above zero = omega arith
-power-above (suc j) = let h = power-above j in simp unary-clauses (omega arith)
-
--- a number has no more digits than it is great, but for 0
-pub fewest-below : (n k : ℕ) → Fewest 10 1 n k → k ≤ n + 1
-fewest-below n zero f = omega arith
-fewest-below n (suc zero) f = omega arith
-fewest-below n (suc (suc j)) f =
-    let h : 10 ^ j * 10 ≤ n = simp unary-clauses at (f .2 (omega arith)) in
-    omega (arith, power-above j)
-
-one-place : (n k : ℕ) → n < 10 → Fewest 10 1 n k → k ≡ 1
-one-place n zero l f = absurd (omega (arith, f .0))
-one-place n (suc zero) l f = refl
-one-place n (suc (suc j)) l f = let p = power-above j in let h : 10 ^ j * 10 ≤ n = simp unary-clauses at (f .2 (omega arith)) in absurd (omega arith)
-
-place-less : (n j : ℕ) → Fewest 10 1 n (suc (suc j)) → Fewest 10 1 (n / 10) (suc j)
-place-less n j f =
-    let h : 10 ^ j * 10 ≤ n = simp unary-clauses at (f .2 (omega arith)) in
-    let b : n < 10 ^ j * 10 * 10 = simp unary-clauses at (f .1) in
-    (omega arith, omega arith, λ l. simp unary-clauses (omega arith))
-
-places-by : (turns n k : ℕ) → n ≤ suc turns → Fewest 10 1 n k → ((m j : ℕ) → m ≤ turns → Fewest 10 1 m j → j ≡ placesIn turns m) → (t : Bool) → ltb n 10 ≡ t → k ≡ placesIn (suc turns) n
-unfolding placesIn
-places-by turns n k h f less true e = rw e (one-place n k (ltb-true n 10 e) f)
-places-by turns n zero h f less false e = absurd (omega (arith, f .0))
-places-by turns n (suc zero) h f less false e = absurd (omega (arith, f .1, ltb-false n 10 e))
-places-by turns n (suc (suc j)) h f less false e =
-    let l = ltb-false n 10 e in
-    rw e (ap suc (less (n / 10) (suc j) (omega arith) (place-less n j f)))
-
-fewest-places : (turns n k : ℕ) → n ≤ turns → Fewest 10 1 n k → k ≡ placesIn turns n
-unfolding placesIn
-fewest-places zero n k h f = one-place n k (omega arith) f
-fewest-places (suc turns) n k h f = places-by turns n k h f (λ m j l g. fewest-places turns m j l g) (ltb n 10) refl
-
-length-digits : (k n : ℕ) → length (digits 10 k n) ≡ k
-length-digits zero n = refl
-length-digits (suc k) n = simp length-append (rw (length-digits k (n / 10)) (omega arith))
-
-pub decimal-length : (n k : ℕ) → Fewest 10 1 n k → k ≡ length (decimalOf n)
-decimal-length n k f = fewest-places n n k (omega arith) f ∙ sym (length-digits (placesIn n n) n)
+-- a word takes ten digits at most
+pub few-places : (n k : ℕ) → n < 4294967296 → Fewest 10 1 n k → k ≤ 10
+few-places n k h f = rw (one-fewest n k (places n) f (fewest n)) (word-places n h)
 
 pub count-length : (count : ℕ) {k : ℕ} → k ≡ length (decimalOf count) → k + 6 ≡ length (countLine count)
 unfolding countLine
@@ -152,12 +111,3 @@ passed-more {list} {from} {i} p h e = record { after = omega (arith, p .after); 
 -- what is passed is a run where another word follows, or none
 pub passed-run : {list : List ℕ} {from i : ℕ} → Passed list from i → (i < length list → getD list i 0 ≡ getD list from 0 → ⊥) → Run list from i
 passed-run p n = record { after = p .after; within = p .within; same = p .same; other = n }
-
--- a run has one end
-pub one-end : {list : List ℕ} {from a b : ℕ} → Run list from a → Run list from b → a ≡ b
-one-end {list} {from} {a} {b} p q = go (decLt a b) (decLt b a)
-  where
-    go : Dec (a < b) → Dec (b < a) → a ≡ b
-    go (yes l) _ = absurd (p .other (omega (arith, q .within)) (q .same a (omega (arith, p .after)) l))
-    go (no _) (yes l) = absurd (q .other (omega (arith, p .within)) (p .same b (omega (arith, q .after)) l))
-    go (no l) (no m) = omega (arith, l, m)

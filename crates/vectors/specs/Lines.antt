@@ -2,18 +2,10 @@
 use mathlib.Core.Bool.{cond}
 use mathlib.Core.List.{List, [], _∷_, _++_}
 use mathlib.Core.Path.{_≡_}
-use Prim.Native.Nat.{ℕ, zero, suc, _+_, _/_, _≤_, _<_}
-use lib.Dec.{eqb, ltb}
+use Prim.Native.Nat.{ℕ, zero, suc, _+_, _≤_, _<_}
+use lib.Dec.{eqb}
 use lib.ListN.{length, getD}
-use Rattle.io.specs.Digits.{digits}
-
--- how many decimal digits n takes; `turns` bounds the divisions, and n of them are enough
-unfoldable pub placesIn : (turns : ℕ) → ℕ → ℕ
-placesIn zero n = 1
-placesIn (suc turns) n = cond (ltb n 10) 1 (suc (placesIn turns (n / 10)))
-
-abbrev pub decimalOf : ℕ → List ℕ
-decimalOf n = digits 10 (placesIn n n) n
+use Rattle.digits.specs.Digits.{decimalOf}
 
 -- "done" and the number
 unfoldable pub countLine : ℕ → List ℕ

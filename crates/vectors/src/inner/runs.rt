@@ -4,7 +4,8 @@ ghost use mathlib.Core.Path.{_≡_};
 ghost use Prim.Native.Nat.{_+_, _<_, _≤_};
 ghost use lib.ListN.{length};
 ghost use Rattle.vectors.specs.Hex.{refusalLine};
-ghost use Rattle.vectors.specs.Lines.{decimalOf, countLine, countsLine, runsOf, Run};
+ghost use Rattle.digits.specs.Digits.{decimalOf};
+ghost use Rattle.vectors.specs.Lines.{countLine, countsLine, runsOf, Run};
 use refusal::Refusal;
 
 // The line's number of bytes.
@@ -59,7 +60,7 @@ pub fn write_runs(list: &[u32]) -> usize
 
 // How many digits it wrote.
 fn write_decimal(n: u32) -> usize
-    ensures { λ r. ⌜ (r ≡ length (decimalOf n)) × (r ≤ n + 1) ⌝ }
+    ensures { λ r. ⌜ (r ≡ length (decimalOf n)) × (r ≤ 10) ⌝ }
 {
     let mut text = [0u8; 20];
     let places = io::decimal(n as u64, &mut text);

@@ -1,5 +1,7 @@
 -- `write_decimal` answers the length of `decimalOf`: `io::decimal` gives the fewest digits.
-use Rattle.vectors.proofs.Lines.{fewest-below, decimal-length}
+use native.Mathlib.Omega.{arith}
+use Rattle.digits.proofs.Places.{decimal-places}
+use Rattle.vectors.proofs.Lines.{few-places}
 use borrow.Author.Needs.{needs}
 use Rattle.vectors.proofs.inner.runs.write_decimal.Statement.{statement}
 use Rattle.vectors.proofs.inner.runs.write_decimal.Tie as tie
@@ -19,7 +21,7 @@ write-all-requires c κs = search needs
 returns : tie.Need-returns
 returns c =
     let fewest = c .before .before .decimal .ensures .1 .0 in
-    (decimal-length _ _ fewest, fewest-below _ _ fewest)
+    (decimal-places _ _ fewest, few-places _ _ (omega (arith, c .before .before .before .before .fits .n)) fewest)
 
 pub write-decimal-spec : {M : Type 1} → statement M
 write-decimal-spec =
