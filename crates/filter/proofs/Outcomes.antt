@@ -1,5 +1,5 @@
 -- The call's three outcomes: refused by the rows, refused for room, done. Assumes nothing.
-use mathlib.Core.Path.{_≡_, sym, ap, _∙_, subst}
+use mathlib.Core.Path.{_≡_, refl, sym, ap, _∙_, subst}
 use mathlib.Core.List.{List, _++_}
 use Prim.Native.Nat.{ℕ, _*_, _/_, _≤_, _<_}
 use borrow.Author.Tests.{lt-ltb, le-ltb}
@@ -40,7 +40,7 @@ module _ (i : Input) (work kept : List ℕ) (g : Gate) (entered : g ≡ entryGat
   module _ (through : g ≡ Open) (mid : List ℕ) (j : Judged i work mid) (n : ℕ) (counted : n ≡ equal (λ (q : ℕ). getD mid q 0) (quadCount i) 0) where
     same : keptTo (i .quads) (λ (q : ℕ). getD mid q 0) (quadCount i) ≡ keptOf i (j .marks)
     unfolding keptOf
-    same = kept-same (i .quads) (λ (q : ℕ). getD mid q 0) (λ (q : ℕ). getD (j .marks) q 0) (quadCount i) (j .held)
+    same = kept-same (i .quads) (i .quads) (λ (q : ℕ). getD mid q 0) (λ (q : ℕ). getD (j .marks) q 0) (quadCount i) (λ k h. refl) (j .held)
 
     many : n ≡ length (keptOf i (j .marks))
     many = counted ∙ kept-count (i .quads) (λ (q : ℕ). getD mid q 0) (quadCount i) ∙ ap length same

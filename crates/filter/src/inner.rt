@@ -28,8 +28,8 @@ pub fn mark_quads(x: &[f32], y: &[f32], quads: &[u32], params: FilterParams, wor
     mark_off_size(quads, work, params);
 }
 
-// How many of the first n marks keep their quad.
-pub fn count_kept(work: &[u32], n: usize) -> usize
+// How many of the first n marks keep their quad. `filter_quads` shows by row 8 that there are so many.
+pub(crate) fn count_kept(work: &[u32], n: usize) -> usize
     requires { ⌜ n ≤ length (now work) ⌝ }
     ensures { λ r. ⌜ r ≡ equal (λ (q : ℕ). getD (now (work .entry)) q 0) n 0 ⌝ }
 {
@@ -56,8 +56,8 @@ fn quad_at(quads: &[u32], q: usize) -> Quad
     }
 }
 
-// The quads whose mark is 0 at the front of their list. `filter_quads` and a frame show the room by row 9.
-pub fn write_kept(quads: &[u32], work: &[u32], kept: &mut [u32])
+// The quads whose mark is 0 at the front of a list of their own. `filter_quads` shows the room by row 9.
+pub(crate) fn write_kept(quads: &[u32], work: &[u32], kept: &mut [u32])
     requires { ⌜ (length (now quads) / 4 ≤ length (now work)) × (4 * length (keptTo (now quads) (λ (q : ℕ). getD (now work) q 0) (length (now quads) / 4)) ≤ length (now kept)) ⌝ }
     ensures { λ _. ⌜ now (kept .exit) ≡ wordsOf (keptTo (now (quads .entry)) (λ (q : ℕ). getD (now (work .entry)) q 0) (length (now (quads .entry)) / 4)) ++ drop (4 * length (keptTo (now (quads .entry)) (λ (q : ℕ). getD (now (work .entry)) q 0) (length (now (quads .entry)) / 4))) (now (kept .entry)) ⌝ }
 {
@@ -71,4 +71,23 @@ pub fn write_kept(quads: &[u32], work: &[u32], kept: &mut [u32])
         }
         q += 1;
     }
+}
+
+// Of the first n quads those whose mark is 0, moved to the front of the same list; answers how many. None is written past the quad that is
+// read, so those to come are as they were. A frame has made n quads in the list, and shows by row 8 that their marks are in the workspace.
+pub fn keep_marked(quads: &mut [u32], work: &[u32], n: usize) -> usize
+    requires { ⌜ (4 * n ≤ length (now quads)) × (n ≤ length (now work)) ⌝ }
+    ensures { λ r. ⌜ (r ≡ length (keptTo (now (quads .entry)) (λ (q : ℕ). getD (now (work .entry)) q 0) n)) × (now (quads .exit) ≡ wordsOf (keptTo (now (quads .entry)) (λ (q : ℕ). getD (now (work .entry)) q 0) n) ++ drop (4 * r) (now (quads .entry))) ⌝ }
+{
+    let mut at = 0;
+    let mut q = 0;
+    while q < n {
+        if work[q] == 0 {
+            let quad = quad_at(quads, q);
+            store(quads, at, quad);
+            at += 4;
+        }
+        q += 1;
+    }
+    at / 4
 }

@@ -7,21 +7,15 @@ use native.Mathlib.Omega.{arith}
 use lib.ListN.{length, take}
 use Rattle.refusal.specs.declared.Gate.the-variants.{Open}
 use Rattle.mesh.specs.Lists.{mostQuads}
-use Rattle.quads.specs.Call.{wordsOf}
-use Rattle.filter.specs.Marks.{keptOf}
 use Rattle.laying.specs.Layout.{Given}
 use Rattle.fates.specs.Computed.{Computed}
 use Rattle.frame.specs.Stages.{Input, filtering}
 use Rattle.frame.specs.Call.{entryGate}
 use Rattle.frame.specs.Steps.{Sifted, Fated}
 use Rattle.frame.proofs.Sound.{entry-open}
-use Rattle.frame.proofs.Fronts.{front}
 use Rattle.frame.proofs.Labelling.{kept-few, kept-given, kept-room}
 
-module _ (i : Input) (n : ℕ) (before list : List ℕ) (sifted : Sifted (filtering i) n before list) where
-  abbrev kept-front : take (4 * n) list ≡ wordsOf (keptOf (filtering i) (sifted .marks))
-  kept-front = front _ n before list (sifted .count) (sifted .front)
-
+module _ (i : Input) (n : ℕ) (list : List ℕ) (sifted : Sifted (filtering i) n list) where
   module _ (words : ℕ) (through : entryGate i words ≡ Open) where
     -- so their words can be counted
     pub few-kept : n ≤ mostQuads
@@ -30,9 +24,9 @@ module _ (i : Input) (n : ℕ) (before list : List ℕ) (sifted : Sifted (filter
     pub fates-ask : (span room : ℕ) → span ≡ max n (length (i .xs)) → room ≡ words → Given span (take (4 * n) list) n × (4 * span + 27 * n ≤ room)
     fates-ask span room spanned same =
         let rows = entry-open i words through in (
-          rw (spanned, kept-front, sifted .count) (kept-given i (rows .0) (sifted .marks)),
+          rw (spanned, sifted .front, sifted .count) (kept-given i (rows .0) (sifted .marks)),
           omega (arith, rows .1, spanned, same, sifted .count, kept-room i (rows .0) (sifted .marks)),
         )
 
   pub fated : (span : ℕ) (work mid after : List ℕ) → span ≡ max n (length (i .xs)) → length mid ≡ length work → Computed span (take (4 * n) list) n (i .params .labels) mid after → Fated i n work after
-  fated span work mid after spanned same c = record { marks = sifted .marks; marked = sifted .marked; count = sifted .count; mid = mid; len = same; computed = rw (← spanned, ← kept-front) c }
+  fated span work mid after spanned same c = record { marks = sifted .marks; marked = sifted .marked; count = sifted .count; mid = mid; len = same; computed = rw (← spanned, ← sifted .front) c }

@@ -6,7 +6,6 @@ use Prim.Native.Nat.{ℕ, _≤_, max}
 use native.Mathlib.Omega.{arith}
 use lib.ListN.{length, getD}
 use Rattle.refusal.specs.declared.Gate.the-variants.{Open}
-use Rattle.words.proofs.Rank.{equal-le}
 use Rattle.mesh.specs.Lists.{mostQuads, quadWords, frameWords}
 use Rattle.quads.specs.declared.Quad.{Quad}
 use Rattle.quads.specs.Call.{wordsOf}
@@ -14,7 +13,7 @@ use Rattle.quads.specs.Merge.{mergedOf}
 use Rattle.quads.proofs.Made.{length-words}
 use Rattle.filter.specs.Input.{quadCount}
 use Rattle.filter.specs.Marks.{keptOf}
-use Rattle.filter.proofs.Kept.{kept-count}
+use Rattle.filter.proofs.Kept.{kept-le}
 use Rattle.filter.proofs.Picked.{kept-different}
 use Rattle.laying.specs.Layout.{Given}
 use Rattle.frame.specs.Stages.{Input, merging, filtering}
@@ -23,12 +22,9 @@ use Rattle.frame.proofs.Written.{words-exist, words-distinct}
 use Rattle.frame.proofs.Sound.{classing-sound, merging-sound, made-few}
 
 -- no more are kept than made
-kept-less : (i : Input) (marks : List ℕ) → length (keptOf (filtering i) marks) ≤ length (mergedOf (merging i))
+pub kept-less : (i : Input) (marks : List ℕ) → length (keptOf (filtering i) marks) ≤ length (mergedOf (merging i))
 unfolding keptOf
-kept-less i marks =
-    let n = quadCount (filtering i) in
-    let mark : ℕ → ℕ = λ q. getD marks q 0 in
-    omega (arith, kept-count (filtering i .quads) mark n, equal-le mark 0 n, length-words (mergedOf (merging i)))
+kept-less i marks = omega (arith, kept-le (filtering i .quads) (λ (q : ℕ). getD marks q 0) (quadCount (filtering i)), length-words (mergedOf (merging i)))
 
 module _ (i : Input) (through : judgeOf i ≡ Open) (marks : List ℕ) where
   abbrev kept : List Quad

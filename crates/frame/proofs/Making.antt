@@ -9,12 +9,12 @@ use Rattle.mesh.specs.Lists.{mostQuads}
 use Rattle.classify.specs.Classes.{classesOf}
 use Rattle.quads.specs.Call.{wordsOf}
 use Rattle.quads.specs.Merge as merge
-use Rattle.quads.specs.Merge.{mergedOf, countTo, triangleCount}
-use Rattle.quads.proofs.Made.{count-is}
+use Rattle.quads.specs.Merge.{mergedOf}
 use Rattle.frame.specs.Stages.{Input, classing, merging}
 use Rattle.frame.specs.Call.{judgeOf}
 use Rattle.frame.specs.Steps.{Made}
 use Rattle.frame.proofs.Sound.{classing-sound, merging-sound, made-few}
+use Rattle.frame.proofs.Fronts.{front-put}
 
 -- what merging reads, by the class list that stands there
 abbrev by : Input → List ℕ → merge.Input
@@ -26,10 +26,7 @@ module _ (i : Input) (list : List ℕ) (classed : list ≡ classesOf (classing i
       subst (λ (l : List ℕ). merge.Sound (by i l) × (4 * length (mergedOf (by i l)) ≤ words)) (sym classed)
       (merging-sound i through, omega (arith, made-few i through, classing-sound i through .edges))
 
-  pub made : (n : ℕ) (before after : List ℕ) → n ≡ countTo (by i list .mesh) (triangleCount (by i list .mesh))
-      → after ≡ wordsOf (mergedOf (by i list)) ++ drop (4 * length (mergedOf (by i list))) before → Made i list n before after
-  unfolding mergedOf
+  pub made : (n : ℕ) (before after : List ℕ) → n ≡ length (mergedOf (by i list)) → after ≡ wordsOf (mergedOf (by i list)) ++ drop (4 * length (mergedOf (by i list))) before → Made i list n after
   made n before after counted wrote =
       let same : mergedOf (by i list) ≡ mergedOf (merging i) = ap (λ (l : List ℕ). mergedOf (by i l)) classed in
-      let many : n ≡ length (mergedOf (by i list)) = counted ∙ count-is (by i list) (triangleCount (by i list .mesh)) in
-      record { classed = classed; count = many ∙ ap length same; front = rw (← same, many) wrote }
+      record { classed = classed; count = counted ∙ ap length same; front = front-put (mergedOf (by i list)) n after counted _ wrote ∙ ap wordsOf same }

@@ -1,9 +1,9 @@
--- What the stages leave in the lists that they are lent. Up to the filters the workspace is theirs and may hold anything; then every group of
--- the quads kept has its fate there.
+-- What the stages leave in the lists that they are lent. Up to the filters the workspace is theirs and may hold anything, and so may the list
+-- of the quads behind them; then every group of the quads kept has its fate in the workspace.
 use mathlib.Core.Path.{_≡_}
-use mathlib.Core.List.{List, _++_}
+use mathlib.Core.List.{List}
 use Prim.Native.Nat.{ℕ, _*_, max}
-use lib.ListN.{length, drop}
+use lib.ListN.{length, take}
 use Rattle.classify.specs.Classes.{classesOf}
 use Rattle.quads.specs.Merge.{mergedOf}
 use Rattle.quads.specs.Call.{wordsOf}
@@ -12,18 +12,18 @@ use Rattle.filter.specs.Marks.{Marked, keptOf}
 use Rattle.fates.specs.Computed.{Computed}
 use Rattle.frame.specs.Stages.{Input, classing, merging, filtering}
 
--- the class list is written; n quads are made, and stand at the front of their list, the rest of which is as it was
-pub record Made (i : Input) (classes : List ℕ) (n : ℕ) (before after : List ℕ) : Type 0 where
+-- the class list is written; n quads are made, and stand at the front of their list
+pub record Made (i : Input) (classes : List ℕ) (n : ℕ) (quads : List ℕ) : Type 0 where
   pub classed : classes ≡ classesOf (classing i)
   pub count : n ≡ length (mergedOf (merging i))
-  pub front : after ≡ wordsOf (mergedOf (merging i)) ++ drop (4 * n) before
+  pub front : take (4 * n) quads ≡ wordsOf (mergedOf (merging i))
 
--- n quads are kept by the marks of the filters, and stand at the front of their list, the rest of which is as it was
-pub record Sifted (f : filters.Input) (n : ℕ) (before after : List ℕ) : Type 0 where
+-- n quads are kept by the marks of the filters, and stand at the front of their list
+pub record Sifted (f : filters.Input) (n : ℕ) (quads : List ℕ) : Type 0 where
   pub marks : List ℕ
   pub marked : Marked f marks
   pub count : n ≡ length (keptOf f marks)
-  pub front : after ≡ wordsOf (keptOf f marks) ++ drop (4 * n) before
+  pub front : take (4 * n) quads ≡ wordsOf (keptOf f marks)
 
 -- n quads are kept by the marks of the filters; of these, the fates and records stand in the workspace, whatever the filters left in it
 pub record Fated (i : Input) (n : ℕ) (before after : List ℕ) : Type 0 where

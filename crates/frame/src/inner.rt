@@ -72,7 +72,7 @@ pub fn compute_frame(
     ensures { λ r. ⌜ Fated (record { xs = now (x .entry); ys = now (y .entry); angles = now (angles .entry); marks = now (marks .entry); spreads = now (spreads .entry); triangles = now (triangles .entry); twins = now (twins .entry); params = params }) r (now (work .entry)) (now (work .exit)) ⌝ }
 {
     let labels = params.labels;
-    let mut kept = [0u32; 4 * MOST_QUADS];
+    let mut quads = [0u32; 4 * MOST_QUADS];
     let n = quads_of(
         x,
         y,
@@ -83,9 +83,9 @@ pub fn compute_frame(
         twins,
         params,
         work,
-        &mut kept,
+        &mut quads,
     );
     let span = span_of(n, x.len());
-    compute(&kept[..4 * n], work, span, n, labels);
+    compute(&quads[..4 * n], work, span, n, labels);
     n
 }

@@ -6,22 +6,21 @@ use mathlib.Core.List.{List, [], _∷_, flatMap}
 use Prim.Native.Nat.{ℕ, _*_, _/_, _%_, _≤_}
 use native.Mathlib.Omega.{arith}
 use borrow.Author.Tests.{eq-eqb, le-ltb}
-use lib.ListN.{length, getD, length-append, length-map}
+use lib.ListN.{length, length-append, length-map}
 use Rattle.refusal.specs.declared.Gate.the-variants.{Open}
 use Rattle.refusal.specs.Rows.{_then_}
 use Rattle.mesh.specs.Lists.{workRow, frameWords}
 use Rattle.quads.specs.declared.Quad.{Quad}
 use Rattle.quads.specs.Call.{wordsOf}
-use Rattle.quads.specs.Merge.{mergedOf}
 use Rattle.quads.proofs.Made.{length-words}
 use Rattle.filter.specs.Marks.{keptOf}
 use Rattle.cells.specs.Listed.{Entry}
 use Rattle.walk.specs.Input.{grouping}
 use Rattle.walk.specs.Call.{allEntries, roomRow, entriesRow}
-use Rattle.frame.specs.Stages.{merging, filtering, labelling, Answer}
+use Rattle.frame.specs.Stages.{filtering, labelling, Answer}
 use Rattle.frame.specs.Call.{lengthsGate, judgeOf}
-use Rattle.frame.proofs.Sifting.{kept-fit}
 use Rattle.frame.proofs.Sound.{made-few}
+use Rattle.frame.proofs.Labelling.{kept-less}
 use Rattle.gridtext.specs.Lines.{CornerLine, TriangleLine}
 use Rattle.gridtext.specs.Text.{Frame, Within}
 use Rattle.gridtext.specs.Lists.{inputOf}
@@ -78,17 +77,7 @@ module _ (f : Frame) (within : Within f) where
     keeps = keptOf (filtering (inputOf f)) (a .marks)
 
     few-quads : length keeps ≤ 128
-    unfolding keptOf
-    few-quads =
-        let made = mergedOf (merging (inputOf f)) in
-        omega (
-          arith,
-          kept-fit (wordsOf made) (λ (q : ℕ). getD (a .marks) q 0) (length (wordsOf made)) (omega arith),
-          length-words made,
-          made-few (inputOf f) through,
-          triangles-length,
-          within .triangles,
-        )
+    few-quads = omega (arith, kept-less (inputOf f) (a .marks), made-few (inputOf f) through, triangles-length, within .triangles)
 
     pub small-answer : (length out ≤ mostComponents) × (length (allEntries out) ≤ mostEntries)
     small-answer =

@@ -7,8 +7,8 @@ use native.Mathlib.Nat.{add-zero, add-suc}
 use native.Mathlib.Numerals.{add-one}
 use native.Mathlib.Decide.{decLt}
 use native.Mathlib.Omega.{arith}
-use lib.ListN.{length, take, drop, length-append, length-drop}
-use lib.Seq.{take-at, drop-append-add, drop-drop}
+use lib.ListN.{length, getD, take, drop, length-append, length-drop}
+use lib.Seq.{take-at, drop-append-add, drop-drop, getD-append-add, getD-drop}
 use Rattle.words.specs.Sorting.{one}
 use Rattle.quads.specs.declared.Pairing.{Pairing}
 use Rattle.quads.specs.declared.Pairing.the-variants.{Alone, Four}
@@ -119,6 +119,17 @@ held-more qs q before now after at e room held stored =
 pub held-length : (qs : List Quad) (before now : List ℕ) → 4 * length qs ≤ length before → Held qs before now → length now ≡ length before
 held-length qs before now room held =
     ap length held ∙ length-append (wordsOf qs) (drop (4 * length qs) before) ∙ rw (length-words qs, length-drop (4 * length qs) before) (omega arith)
+
+-- behind them each word is as it was
+pub held-behind : (qs : List Quad) (before now : List ℕ) → Held qs before now → (k : ℕ) → 4 * length qs ≤ k → getD now k 0 ≡ getD before k 0
+held-behind qs before now held k h =
+    let past : length (wordsOf qs) + (k - 4 * length qs) ≡ k = omega (arith, length-words qs) in
+    let on : 4 * length qs + (k - 4 * length qs) ≡ k = omega arith in
+    ap (λ (l : List ℕ). getD l k 0) held
+    ∙ ap (λ (n : ℕ). getD (wordsOf qs ++ drop (4 * length qs) before) n 0) (sym past)
+    ∙ getD-append-add (wordsOf qs) (drop (4 * length qs) before) (k - 4 * length qs) 0
+    ∙ getD-drop (4 * length qs) before (k - 4 * length qs) 0
+    ∙ ap (λ (n : ℕ). getD before n 0) on
 
 pub held-by : (qs rs : List Quad) (before now : List ℕ) → qs ≡ rs → Held rs before now → Held qs before now
 held-by qs rs before now e h = subst (λ (l : List Quad). Held l before now) (sym e) h

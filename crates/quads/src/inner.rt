@@ -12,8 +12,8 @@ use crate::order::order_corners;
 use crate::pair::next_pair;
 use crate::pair::pair_at;
 
-// How many quads the mesh makes. `merge_triangle_pairs` and a frame show what is asked by their rows.
-pub fn count_quads(triangles: &[u32], twins: &[u32], classes: &[u32]) -> usize
+// How many quads the mesh makes. `merge_triangle_pairs` shows what is asked by its rows.
+pub(crate) fn count_quads(triangles: &[u32], twins: &[u32], classes: &[u32]) -> usize
     requires { ⌜ Settled (record { triangles = now triangles; twins = now twins; classes = now classes }) ⌝ }
     ensures { λ r. ⌜ r ≡ countTo (record { triangles = now (triangles .entry); twins = now (twins .entry); classes = now (classes .entry) }) (triangleCount (record { triangles = now (triangles .entry); twins = now (twins .entry); classes = now (classes .entry) })) ⌝ }
 {
@@ -66,7 +66,7 @@ pub fn store(quads: &mut [u32], at: usize, q: Quad)
     quads[at + 3] = q.d;
 }
 
-// The quads at the front of their list. `merge_triangle_pairs` and a frame show what is asked by their rows.
+// The quads at the front of their list; answers how many. `merge_triangle_pairs` and a frame show what is asked by their rows.
 pub fn write_quads(
     x: &[f32],
     y: &[f32],
@@ -74,9 +74,9 @@ pub fn write_quads(
     twins: &[u32],
     classes: &[u32],
     quads: &mut [u32],
-)
+) -> usize
     requires { ⌜ Sound (record { xs = now x; ys = now y; mesh = record { triangles = now triangles; twins = now twins; classes = now classes } }) × (4 * length (mergedOf (record { xs = now x; ys = now y; mesh = record { triangles = now triangles; twins = now twins; classes = now classes } })) ≤ length (now quads)) ⌝ }
-    ensures { λ _. ⌜ now (quads .exit) ≡ wordsOf (mergedOf (record { xs = now (x .entry); ys = now (y .entry); mesh = record { triangles = now (triangles .entry); twins = now (twins .entry); classes = now (classes .entry) } })) ++ drop (4 * length (mergedOf (record { xs = now (x .entry); ys = now (y .entry); mesh = record { triangles = now (triangles .entry); twins = now (twins .entry); classes = now (classes .entry) } }))) (now (quads .entry)) ⌝ }
+    ensures { λ r. ⌜ (r ≡ length (mergedOf (record { xs = now (x .entry); ys = now (y .entry); mesh = record { triangles = now (triangles .entry); twins = now (twins .entry); classes = now (classes .entry) } }))) × (now (quads .exit) ≡ wordsOf (mergedOf (record { xs = now (x .entry); ys = now (y .entry); mesh = record { triangles = now (triangles .entry); twins = now (twins .entry); classes = now (classes .entry) } })) ++ drop (4 * length (mergedOf (record { xs = now (x .entry); ys = now (y .entry); mesh = record { triangles = now (triangles .entry); twins = now (twins .entry); classes = now (classes .entry) } }))) (now (quads .entry))) ⌝ }
 {
     let count = triangles.len() / 3;
     let mut at = 0;
@@ -84,11 +84,12 @@ pub fn write_quads(
     while t < count {
         t = next_pair(triangles, twins, classes, t);
         if count <= t {
-            return;
+            return at / 4;
         }
         let q = quad_of(x, y, triangles, twins, classes, t);
         store(quads, at, q);
         at += 4;
         t += 1;
     }
+    at / 4
 }

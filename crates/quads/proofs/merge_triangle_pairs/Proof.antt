@@ -53,14 +53,14 @@ returns-2 c = short _ _ _ (c .before .before .before .before .judge .ensures) _ 
 write-quads-requires : tie.Need-write-quads-requires
 write-quads-requires c κs = (gate-sound _ (sym (c .before .before .before .before .before .judge .ensures) ∙ c .before .before .before .enum-told .given .1), four _ _ _ (counted (c .before .before)) (c .before .if1 .left))
 
-cast-t18 : tie.Need-cast-t18
-cast-t18 c = omega (arith, few (c .before .before .before .before .before))
+cast-t17 : tie.Need-cast-t17
+cast-t17 c = omega (arith, few (c .before .before .before .before .before))
 
 same-length : tie.Need-same-length
 same-length c = search needs
 
 returns-3 : tie.Need-returns-3
-returns-3 c = done _ _ _ (c .before .before .before .before .before .before .before .before .judge .ensures) _ _ (c .before .before .before .before .before .before .enum-told .given .1) (counted (c .before .before .before .before .before)) (c .before .before .before .before .if1 .left) (c .before .before .write-quads .ensures)
+returns-3 c = done _ _ _ (c .before .before .before .before .before .before .before .before .judge .ensures) _ _ (c .before .before .before .before .before .before .enum-told .given .1) (counted (c .before .before .before .before .before)) (c .before .before .before .before .if1 .left) (c .before .before .write-quads .ensures .1)
 
 pub merge-triangle-pairs-spec : {M : Type 1} → statement M
 merge-triangle-pairs-spec =
@@ -74,6 +74,6 @@ merge-triangle-pairs-spec =
     cast-t13
     returns-2
     write-quads-requires
-    cast-t18
+    cast-t17
     same-length
     returns-3)

@@ -1,4 +1,4 @@
--- `compute_frame`: the quads kept, at the front of a list of their own, are what labelling reads.
+-- `compute_frame`: the quads kept, at the front of their list, are what labelling reads.
 use native.Mathlib.Omega.{arith}
 use Rattle.frame.specs.Stages.{Input}
 use Rattle.frame.proofs.Fronts.{front-counted, front-in}
@@ -19,23 +19,23 @@ quads-of-requires c κs = search needs
 span-of-requires : tie.Need-span-of-requires
 span-of-requires c κs = search needs
 
-mul-kept : tie.Need-mul-kept
-mul-kept c = let s = c .before .before .before .before .before .before .before .before .before .before .before .before .before .before .before .before in omega (arith, few-kept (read s) _ _ _ (c .before .before .before .before .quads-of .ensures .0) _ (s .pre))
+mul-quads : tie.Need-mul-quads
+mul-quads c = let s = c .before .before .before .before .before .before .before .before .before .before .before .before .before .before .before .before in omega (arith, few-kept (read s) _ _ (c .before .before .before .before .quads-of .ensures .0) _ (s .pre))
 
-array-share-prefix-kept : tie.Need-array-share-prefix-kept
-array-share-prefix-kept c = let q = c .before .before .before .before .quads-of .ensures .0 in front-in _ _ _ _ (q .count) (q .front)
+array-share-prefix-quads : tie.Need-array-share-prefix-quads
+array-share-prefix-quads c = let q = c .before .before .before .before .quads-of .ensures .0 in front-in _ _ _ (q .count) (q .front)
 
 slice-aggregate-compute : tie.Need-slice-aggregate-compute
-slice-aggregate-compute c = let q = c .before .before .before .before .before .quads-of .ensures .0 in front-counted _ _ _ _ (q .count) (q .front)
+slice-aggregate-compute c = let q = c .before .before .before .before .before .quads-of .ensures .0 in front-counted _ _ _ (q .count) (q .front)
 
 compute-requires : tie.Need-compute-requires
-compute-requires c κs = let s = c .before .before .before .before .before .before .before .before .before .before .before .before .before .before .before .before .before .before in let q = c .before .before .before .before .before .before .quads-of .ensures in fates-ask (read s) _ _ _ (q .0) _ (s .pre) _ _ (c .before .before .span-of .ensures) (q .1)
+compute-requires c κs = let s = c .before .before .before .before .before .before .before .before .before .before .before .before .before .before .before .before .before .before in let q = c .before .before .before .before .before .before .quads-of .ensures in fates-ask (read s) _ _ (q .0) _ (s .pre) _ _ (c .before .before .span-of .ensures) (q .1)
 
 same-length : tie.Need-same-length
 same-length c = search needs
 
 returns : tie.Need-returns
-returns c = let s = c .before .before .before .before .before .before .before .before .before .before .before .before .before .before .before .before .before .before .before .before .before in let q = c .before .before .before .before .before .before .before .before .before .quads-of .ensures in fated (read s) _ _ _ (q .0) _ _ _ _ (c .before .before .before .before .before .span-of .ensures) (q .1) (c .before .before .compute .ensures)
+returns c = let s = c .before .before .before .before .before .before .before .before .before .before .before .before .before .before .before .before .before .before .before .before .before in let q = c .before .before .before .before .before .before .before .before .before .quads-of .ensures in fated (read s) _ _ (q .0) _ _ _ _ (c .before .before .before .before .before .span-of .ensures) (q .1) (c .before .before .compute .ensures)
 
 pub compute-frame-spec : {M : Type 1} → statement M
-compute-frame-spec = tie.close (tie.spec slice-aggregate-quads-of quads-of-requires span-of-requires mul-kept array-share-prefix-kept slice-aggregate-compute compute-requires same-length returns)
+compute-frame-spec = tie.close (tie.spec slice-aggregate-quads-of quads-of-requires span-of-requires mul-quads array-share-prefix-quads slice-aggregate-compute compute-requires same-length returns)

@@ -1,24 +1,34 @@
--- `keep_quads`: the marks, the quads whose mark is 0, and how many they are.
+-- `keep_quads`: the marks of the front's quads, and those whose mark is 0 kept.
+use mathlib.Core.Path.{refl, sym}
+use Prim.Native.Nat.{_*_}
+use native.Mathlib.Omega.{arith}
+use lib.ListN.{take}
+use lib.Seq.{length-take-le}
 use Rattle.filter.specs.Input.{Input}
-use Rattle.filter.proofs.Outcomes.{front}
-use Rattle.frame.proofs.Sifting.{kept-fit, sifted}
+use Rattle.frame.proofs.Sifting.{front-count, sifted}
 use borrow.Author.Needs.{needs}
 use Rattle.frame.proofs.stages.keep_quads.Statement.{statement}
 use Rattle.frame.proofs.stages.keep_quads.Tie as tie
 
 abbrev read : tie.Start → Input
-read s = record { xs = s .args .x .now; ys = s .args .y .now; quads = s .args .made .now; params = s .args .params }
+read s = record { xs = s .args .x .now; ys = s .args .y .now; quads = take (4 * s .args .n) (s .args .quads .now); params = s .args .params }
+
+mul-mark-quads : tie.Need-mul-mark-quads
+mul-mark-quads c = search needs
+
+slice-reshare-prefix-mark-quads : tie.Need-slice-reshare-prefix-mark-quads
+slice-reshare-prefix-mark-quads c = search needs
+
+slice-aggregate-mark-quads : tie.Need-slice-aggregate-mark-quads
+slice-aggregate-mark-quads c = sym (length-take-le _ _ (c .before .before .before .before .before .pre .2))
 
 mark-quads-requires : tie.Need-mark-quads-requires
-mark-quads-requires c κs = search needs
+mark-quads-requires c κs =
+    let s = c .before .before .before .before .before .before in
+    (s .pre .0, omega (arith, front-count (read s) _ _ refl (s .pre .2), s .pre .1))
 
-write-kept-requires : tie.Need-write-kept-requires
-write-kept-requires c κs =
-    let s = c .before .before .before .before .before .before .before .before .before .before .before in
-    (front _ _ _ (s .pre .1) (c .before .before .before .before .mark-quads .ensures), kept-fit _ _ _ (s .pre .2))
-
-count-kept-requires : tie.Need-count-kept-requires
-count-kept-requires c κs = search needs
+keep-marked-requires : tie.Need-keep-marked-requires
+keep-marked-requires c κs = search needs
 
 same-length : tie.Need-same-length
 same-length c = search needs
@@ -28,16 +38,20 @@ same-length-2 c = search needs
 
 returns : tie.Need-returns
 returns c =
-    let s = c .before .before .before .before .before .before .before .before .before .before .before .before .before .before .before .before in
-    (sifted (read s) _ _ _ _ _ (c .before .before .before .before .before .before .before .before .before .mark-quads .ensures) (c .count-kept .ensures) (c .before .before .before .before .write-kept .ensures), c .before .before .before .before .before .before .before .before .before .mark-quads .ensures .len)
+    let s = c .before .before .before .before .before .before .before .before .before .before .before .before .before .before in
+    let marked = c .before .before .before .before .before .before .before .mark-quads .ensures in
+    let kept = c .before .before .keep-marked .ensures in
+    (sifted (read s) _ _ refl (s .pre .2) _ _ _ _ marked (kept .0) (kept .1), marked .len)
 
 pub keep-quads-spec : {M : Type 1} → statement M
 keep-quads-spec =
     tie.close
     (tie.spec
+    mul-mark-quads
+    slice-reshare-prefix-mark-quads
+    slice-aggregate-mark-quads
     mark-quads-requires
-    write-kept-requires
-    count-kept-requires
+    keep-marked-requires
     same-length
     same-length-2
     returns)

@@ -1,4 +1,4 @@
--- `make_quads`: classes, the quads by these classes, and how many they are.
+-- `make_quads`: classes, then the quads by these classes.
 use Rattle.frame.specs.Stages.{Input}
 use Rattle.frame.proofs.Sound.{classing-sound}
 use Rattle.frame.proofs.Making.{merge-asks, made}
@@ -19,11 +19,6 @@ write-quads-requires c κs =
     let s = c .before .before .before .before .before .before .before .before .before .before .before .before .before .before .before .before in
     merge-asks (read s) _ (c .before .before .before .before .classify-triangles .ensures) (s .pre .0) _ (s .pre .1 .1)
 
-count-quads-requires : tie.Need-count-quads-requires
-count-quads-requires c κs =
-    let s = c .before .before .before .before .before .before .before .before .before .before .before .before .before .before .before .before .before .before .before .before in
-    merge-asks (read s) _ (c .before .before .before .before .before .before .before .before .classify-triangles .ensures) (s .pre .0) _ (s .pre .1 .1) .0 .mesh
-
 same-length : tie.Need-same-length
 same-length c = search needs
 
@@ -31,7 +26,10 @@ same-length-2 : tie.Need-same-length-2
 same-length-2 c = search needs
 
 returns : tie.Need-returns
-returns c = made (read (c .before .before .before .before .before .before .before .before .before .before .before .before .before .before .before .before .before .before .before .before .before)) _ (c .before .before .before .before .before .before .before .before .before .classify-triangles .ensures) _ _ _ (c .count-quads .ensures) (c .before .before .before .before .write-quads .ensures)
+returns c =
+    let s = c .before .before .before .before .before .before .before .before .before .before .before .before .before .before .before .before .before .before .before in
+    let w = c .before .before .write-quads .ensures in
+    made (read s) _ (c .before .before .before .before .before .before .before .classify-triangles .ensures) _ _ _ (w .0) (w .1)
 
 pub make-quads-spec : {M : Type 1} → statement M
 make-quads-spec =
@@ -39,7 +37,6 @@ make-quads-spec =
     (tie.spec
     classify-triangles-requires
     write-quads-requires
-    count-quads-requires
     same-length
     same-length-2
     returns)

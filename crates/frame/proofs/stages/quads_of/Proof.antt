@@ -1,11 +1,10 @@
--- `quads_of`: the quads made, at the front of a list of their own, are what the filters look at.
+-- `quads_of`: the quads made, at the front of their list, are what the filters look at.
 use mathlib.Core.Path.{sym, _∙_}
 use native.Mathlib.Omega.{arith}
 use lib.Seq.{length-take-le}
 use Rattle.frame.specs.Stages.{Input}
 use Rattle.frame.proofs.Sound.{entry-open}
-use Rattle.frame.proofs.Fronts.{front-counted, front-in}
-use Rattle.frame.proofs.Handing.{few, same-work, filters-ask, sifted-made}
+use Rattle.frame.proofs.Handing.{same-work, filters-ask, sifted-made}
 use borrow.Author.Needs.{needs}
 use Rattle.frame.proofs.stages.quads_of.Statement.{statement}
 use Rattle.frame.proofs.stages.quads_of.Tie as tie
@@ -21,30 +20,16 @@ slice-relend-prefix-make-quads c =
 slice-aggregate-make-quads : tie.Need-slice-aggregate-make-quads
 slice-aggregate-make-quads c = sym (length-take-le _ _ (slice-relend-prefix-make-quads (c .before)))
 
-slice-aggregate-make-quads-2 : tie.Need-slice-aggregate-make-quads-2
-slice-aggregate-make-quads-2 c = search needs
-
 make-quads-requires : tie.Need-make-quads-requires
 make-quads-requires c κs =
     let s = c .before .before .before .before .before .before .before .before .before .before .before .before in
-    (entry-open (read s) _ (s .pre .0) .0, (sym (slice-aggregate-make-quads (c .before)), omega arith))
-
-mul-made : tie.Need-mul-made
-mul-made c =
-    let s = c .before .before .before .before .before .before .before .before .before .before .before .before .before .before .before .before in
-    omega (arith, few (read s) _ _ _ _ (c .before .before .before .make-quads .ensures) (entry-open (read s) _ (s .pre .0) .0))
-
-array-share-prefix-made : tie.Need-array-share-prefix-made
-array-share-prefix-made c = let m = c .before .before .before .make-quads .ensures in front-in _ _ _ _ (m .count) (m .front)
-
-slice-aggregate-keep-quads : tie.Need-slice-aggregate-keep-quads
-slice-aggregate-keep-quads c = let m = c .before .before .before .before .make-quads .ensures in front-counted _ _ _ _ (m .count) (m .front)
+    (entry-open (read s) _ (s .pre .0) .0, (sym (slice-aggregate-make-quads (c .before)), s .pre .1))
 
 keep-quads-requires : tie.Need-keep-quads-requires
 keep-quads-requires c κs =
     let s = c .before .before .before .before .before .before .before .before .before .before .before .before .before .before .before .before .before .before .before in
     let rows = entry-open (read s) _ (s .pre .0) in
-    filters-ask (read s) _ _ _ _ (c .before .before .before .before .before .before .make-quads .ensures) (rows .0) (s .args .work .now) _ (rows .1) (s .pre .1)
+    filters-ask (read s) _ _ _ (c .before .before .before .before .before .before .make-quads .ensures) (rows .0) (s .args .work .now) (rows .1)
 
 same-length : tie.Need-same-length
 same-length c = search needs
@@ -57,8 +42,8 @@ returns c =
     let s = c .before .before .before .before .before .before .before .before .before .before .before .before .before .before .before .before .before .before .before .before .before .before .before .before in
     let made = c .before .before .before .before .before .before .before .before .before .before .before .make-quads .ensures in
     let kept = c .before .before .before .before .keep-quads .ensures in (
-      sifted-made (read s) _ _ _ _ made _ _ _ (kept .0),
-      kept .1 ∙ same-work (read s) _ _ _ _ made (entry-open (read s) _ (s .pre .0) .0) (s .args .work .now) (slice-relend-prefix-make-quads (c .before .before .before .before .before .before .before .before .before .before .before .before .before .before)),
+      sifted-made (read s) _ _ _ made _ _ (kept .0),
+      kept .1 ∙ same-work (read s) _ _ _ made (entry-open (read s) _ (s .pre .0) .0) (s .args .work .now) (slice-relend-prefix-make-quads (c .before .before .before .before .before .before .before .before .before .before .before .before .before .before)),
     )
 
 pub quads-of-spec : {M : Type 1} → statement M
@@ -67,11 +52,7 @@ quads-of-spec =
     (tie.spec
     slice-relend-prefix-make-quads
     slice-aggregate-make-quads
-    slice-aggregate-make-quads-2
     make-quads-requires
-    mul-made
-    array-share-prefix-made
-    slice-aggregate-keep-quads
     keep-quads-requires
     same-length
     same-length-2

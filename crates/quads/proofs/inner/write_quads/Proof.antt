@@ -1,5 +1,5 @@
--- `write_quads`: after all triangles below t their quads stand at the front, and the rest of the list is as it was.
-use Prim.Native.Nat.{ℕ, _+_, _-_, _*_, _≤_, _<_}
+-- `write_quads`: after all triangles below t their quads stand at the front, `at` words in all, and the rest of the list is as it was.
+use Prim.Native.Nat.{ℕ, _+_, _-_, _*_, _/_, _≤_, _<_}
 use mathlib.Core.Path.{_≡_, refl, sym, ap, _∙_}
 use mathlib.Core.List.{List, [], _∷_, _++_}
 use native.Mathlib.Omega.{arith}
@@ -48,6 +48,10 @@ room c =
     let all : 4 * length (quadsTo i (triangleCount (i .mesh))) ≤ length (c .before .before .before .before .before .before .before .before .before .before .before .args .quads .now) = c .before .before .before .before .before .before .before .before .before .before .before .pre .1 in
     omega (arith, l .inv .1, l .inv .3)
 
+-- where no triangle from t on makes a quad, the quads below t are all
+answered : (i : Input) (before now : List ℕ) (at t : ℕ) → mergedOf i ≡ quadsTo i t → at ≡ 4 * length (quadsTo i t) → Held (quadsTo i t) before now → (at / 4 ≡ length (mergedOf i)) × Held (mergedOf i) before now
+answered i before now at t e many held = (rw e (omega arith), held-by (mergedOf i) (quadsTo i t) before now e held)
+
 loop-holds : tie.Need-loop-holds Inv-loop μ-loop
 unfolding quadsTo wordsOf
 loop-holds c = (search needs, refl, refl, refl)
@@ -66,7 +70,7 @@ returns c =
     let n = c .before .next-pair .ensures in
     let l = c .before .before .before .loop in
     let e : c .before .next-pair .result ≡ triangleCount (i .mesh) = omega (arith, n .reach) in
-    held-by _ _ (s .args .quads .now) (l .quads) (sym (ap (quadsTo i) e) ∙ passed i (l .t) _ (n .past) (n .clear)) (l .inv .2)
+    answered i (s .args .quads .now) (l .quads) (l .at) (l .t) (sym (ap (quadsTo i) e) ∙ passed i (l .t) _ (n .past) (n .clear)) (l .inv .1) (l .inv .2)
 
 quad-of-requires : tie.Need-quad-of-requires Inv-loop μ-loop
 quad-of-requires c κs =
@@ -107,7 +111,7 @@ returns-2 c =
     let i = read s in
     let l = c .before .loop in
     let e : l .t ≡ triangleCount (i .mesh) = omega arith in
-    held-by _ _ (s .args .quads .now) (l .quads) (sym (ap (quadsTo i) e)) (l .inv .2)
+    answered i (s .args .quads .now) (l .quads) (l .at) (l .t) (sym (ap (quadsTo i) e)) (l .inv .1) (l .inv .2)
 
 pub write-quads-spec : {M : Type 1} → statement M
 write-quads-spec =
