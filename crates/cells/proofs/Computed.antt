@@ -22,7 +22,7 @@ use Rattle.cells.proofs.Whole.{pair}
 use Rattle.cells.proofs.Tests.{never, implied, implies, every-in, in-every, Made, map-in, in-map, not-in}
 use Rattle.cells.proofs.Twin.{same-pair-is, is-same-pair, Solved, Solves, solve-is}
 use Rattle.cells.proofs.Twin.Solves.{solved, unsolved}
-use Rattle.cells.proofs.Lowest.{reaches, stands, above-self}
+use Rattle.cells.proofs.Lowest.{reaches, stands, none-over}
 use Rattle.cells.proofs.Inserted.{order-in, in-the-order, order-sorted}
 
 -- ---- those that pass a test
@@ -119,10 +119,10 @@ module _ (cells : List ℕ) (s : ℕ) (rs : List Reading) (z : Solved cells s rs
             record { entry = placed (least ls) (t .r); among = in-listing ls alone (in-those (lone rs) rs (t .among) h); is = t .is };
         zero-u = λ e i.
             let h = reaches (λ (p : Pair). p .0) ls (listed-of ls alone i .among) in
-            record { entry = placed (least ls) (h .r); among = in-listing ls alone (h .among); is = above-self (h .is) };
+            record { entry = placed (least ls) (h .r); among = in-listing ls alone (h .among); is = none-over (h .is) };
         zero-v = λ e i.
             let h = reaches (λ (p : Pair). p .1) ls (listed-of ls alone i .among) in
-            record { entry = placed (least ls) (h .r); among = in-listing ls alone (h .among); is = above-self (h .is) };
+            record { entry = placed (least ls) (h .r); among = in-listing ls alone (h .among); is = none-over (h .is) };
         ordered = order-sorted (map (placed (least ls)) ls);
       }
 

@@ -9,7 +9,6 @@ use Prim.Native.Nat.{ℕ, zero, suc, _+_, _/_, _%_, _≤_, _<_}
 use native.Mathlib.Omega.{arith}
 use borrow.Author.Tests.{eqb-true, eqb-false, eq-eqb, ne-eqb, not-true}
 use lib.Dec.{eqb, lit<}
-use lib.IntN.{ℤ, negℤ, _-ℤ_}
 use lib.ListN.{length}
 use Rattle.cells.specs.Cells.{Cell, cell, Has}
 use Rattle.cells.specs.Kind.{Pair, _⊖_, Reached, Fits}
@@ -20,17 +19,10 @@ use Rattle.cells.specs.Listed.{In}
 use Rattle.cells.specs.Listed.In.{first, later}
 use Rattle.cells.specs.Twin.{numbers, Known, third-of, after, all-sides, first-side, Pick, picked, onward, start, end, against, seek, pick, run, known-from}
 use Rattle.cells.specs.Twin.Pick.{stuck, took}
-use Rattle.cells.proofs.Whole.{sum, opp, to, pair}
-use Rattle.cells.proofs.Squares.{turn-step, square-next, four, all-round}
+use Rattle.cells.proofs.Squares.{step-back, square-next, four, all-round}
 use Rattle.cells.proofs.Tests.{both, not-in, below-in, in-below, numbers-length}
 
 -- ---- round a quad
-
-minus : (a b : ℤ) → negℤ (b -ℤ a) ≡ a -ℤ b
-minus a b = to (omega (arith, sum b (negℤ a), opp a, opp (b -ℤ a), sum a (negℤ b), opp b))
-
-step-back : (a b : Pair) → OneStep (b ⊖ a) → OneStep (a ⊖ b)
-step-back a b s = subst OneStep (pair (minus (a .0) (b .0)) (minus (a .1) (b .1))) (turn-step (turn-step s))
 
 pub square-on : (p q : Pair) → OneStep (q ⊖ p) → Square p q (third-of p q) (third-of p q ⊖ (q ⊖ p))
 square-on p q s = record { side = s; third = refl; fourth = refl }

@@ -1,7 +1,7 @@
 -- A group's listing is determined: two listings from assignments that fit have the same entries, since each has an entry at its zeros, and
 -- a list in order is fixed by what is in it. Assumes nothing.
 use mathlib.Core.Path.{_≡_, refl, sym, ap, ap₂, _∙_, subst}
-use mathlib.Core.List.{List, [], _∷_}
+use mathlib.Core.List.{List, _∷_}
 use Prim.Native.Nat.{ℕ}
 use native.Mathlib.Omega.{arith}
 use lib.IntN.{ℤ, pos, _+ℤ_}
@@ -12,6 +12,7 @@ use Rattle.cells.specs.Listed.Sorted.{none, more}
 use Rattle.cells.specs.Listed.Before.{by-u, by-v}
 use Rattle.cells.proofs.Whole.{sum, of, to, up-pos}
 use Rattle.cells.proofs.Unique.{Laws, one-labelling, one-lone}
+use Rattle.cells.proofs.Tests.{not-in}
 
 -- ---- lists in order
 
@@ -33,13 +34,10 @@ heads o q (first p) j = p
 heads o q (later i) (first p) = sym p
 heads {e} {f} o q (later i) (later j) = absurd (one-way (o f j) (q e i))
 
-empty : {e : Entry} → In e [] → ⊥
-empty h = elim h [ ]
-
 pub same-sorted : {es fs : List Entry} → Sorted Before es → Sorted Before fs → ((e : Entry) → In e es → In e fs) → ((e : Entry) → In e fs → In e es) → es ≡ fs
 same-sorted none none a b = refl
-same-sorted none (more {e = f} q r) a b = absurd (empty (b f (first refl)))
-same-sorted (more {e = e} o p) none a b = absurd (empty (a e (first refl)))
+same-sorted none (more {e = f} q r) a b = not-in (b f (first refl))
+same-sorted (more {e = e} o p) none a b = not-in (a e (first refl))
 same-sorted (more {e = e} {es} o p) (more {e = f} {es = fs} q r) a b =
     let h : e ≡ f = heads o q (a e (first refl)) (b f (first refl)) in
     ap₂ _∷_ h (same-sorted p r (λ x i. cut h o i (a x (later i))) (λ x i. cut (sym h) q i (b x (later i))))

@@ -1,16 +1,16 @@
--- The computed shift: no reading's number is below the lowest, one is the lowest, and `above` tells how far each stands over it.
+-- The computed shift: no reading's number is below the lowest, one is the lowest, and each stands over it by their difference.
 -- Assumes nothing.
 use mathlib.Core.Path.{_≡_, refl, sym, ap, _∙_, subst}
 use mathlib.Core.List.{List, [], _∷_}
 use mathlib.Core.Logic.{_⊎_, inl, inr}
 use Prim.Native.Nat.{ℕ, suc, _+_}
 use native.Mathlib.Omega.{arith}
-use lib.IntN.{ℤ, pos, negsuc, negℤ, _+ℤ_, _-ℤ_}
+use lib.IntN.{ℤ, pos, negsuc, negℤ, natAbs, _+ℤ_, _-ℤ_}
 use Rattle.cells.specs.Kind.{Pair}
 use Rattle.cells.specs.Listed.{In}
 use Rattle.cells.specs.Listed.In.{first, later}
 use Rattle.cells.specs.Twin.{Reading}
-use Rattle.cells.specs.Computed.{lower-by, lower, lowest, above}
+use Rattle.cells.specs.Computed.{lower-by, lower, lowest}
 use Rattle.cells.proofs.Whole.{sum, opp, of, to, up-pos}
 use Rattle.cells.proofs.Tests.{not-in}
 
@@ -57,11 +57,11 @@ module _ (f : Pair → ℤ) where
       go (first e) h = subst (λ (y : Reading). Over (lower (f (r .pair)) (lowest f (x ∷ rs))) (f (y .pair))) (sym e) (l .under-a)
       go (later j) h = over-over (l .under-b) (h j)
 
-  -- each stands over the lowest by what `above` tells
-  pub stands : (rs : List Reading) (t : Reading) → In t rs → f (t .pair) ≡ lowest f rs +ℤ pos (above (f (t .pair) -ℤ lowest f rs))
+  -- each stands over the lowest by their difference
+  pub stands : (rs : List Reading) (t : Reading) → In t rs → f (t .pair) ≡ lowest f rs +ℤ pos (natAbs (f (t .pair) -ℤ lowest f rs))
   stands rs t i =
       let o = under rs t i in
-      o .is ∙ ap (λ (z : ℤ). lowest f rs +ℤ pos (above z)) (sym (less (lowest f rs) (f (t .pair)) (o .n) (o .is)))
+      o .is ∙ ap (λ (z : ℤ). lowest f rs +ℤ pos (natAbs z)) (sym (less (lowest f rs) (f (t .pair)) (o .n) (o .is)))
 
   pub record Least (rs : List Reading) : Type 0 where
     pub r : Reading
@@ -80,5 +80,5 @@ module _ (f : Pair → ℤ) where
   reaches [] i = not-in i
   reaches (r ∷ rs) i = one-least r rs
 
-pub above-self : {a b : ℤ} → a ≡ b → above (a -ℤ b) ≡ 0
-above-self {a} {b} e = ap above (less b a 0 (to (omega (arith, of e, sum b (pos 0), up-pos 0))))
+pub none-over : {a b : ℤ} → a ≡ b → natAbs (a -ℤ b) ≡ 0
+none-over {a} {b} e = ap natAbs (less b a 0 (to (omega (arith, of e, sum b (pos 0), up-pos 0))))

@@ -12,7 +12,7 @@ use Rattle.cells.specs.Kind.{Pair, _⊕_, _⊖_, origin, Reached, Fits}
 use Rattle.cells.specs.Kind.Chain.{here, on}
 use Rattle.cells.specs.Quads.{turn, OneStep, Square, Round, quads}
 use Rattle.cells.specs.Quads.OneStep.{east, north, west, south}
-use Rattle.cells.proofs.Whole.{sum, opp, of, to, pair, of-0, of-1}
+use Rattle.cells.proofs.Whole.{sum, opp, of, to, minus, pair, of-0, of-1}
 use Rattle.cells.proofs.Unique.{Laws}
 
 -- ---- unit squares
@@ -23,6 +23,10 @@ turn-step (east e) = north (ap turn e)
 turn-step (north e) = west (ap turn e)
 turn-step (west e) = south (ap turn e)
 turn-step (south e) = east (ap turn e)
+
+-- the same side run the other way
+pub step-back : (a b : Pair) → OneStep (b ⊖ a) → OneStep (a ⊖ b)
+step-back a b s = subst OneStep (pair (minus (a .0) (b .0)) (minus (a .1) (b .1))) (turn-step (turn-step s))
 
 add-less : (b c t : Pair) → c ≡ b ⊕ t → c ⊖ b ≡ t
 add-less b c t e = pair

@@ -1,7 +1,7 @@
 -- What tests say that are joined by and, by or, and over a list or the numbers below n. Assumes nothing.
 use mathlib.Core.Path.{_≡_, refl, sym, ap, ap₂, _∙_}
 use mathlib.Core.Bool.{Bool, true, false, not, _&&_, _||_, true≢false}
-use mathlib.Core.List.{List, [], _∷_, map}
+use mathlib.Core.List.{List, [], _∷_, _++_, map}
 use mathlib.Core.Logic.{_⊎_, inl, inr}
 use Prim.Native.Nat.{ℕ, zero, suc, _<_}
 use native.Mathlib.Omega.{arith}
@@ -86,6 +86,10 @@ module _ {A : Type 0} (test : A → Bool) where
   fails (x ∷ xs) e = here-or x (not-both (test x) (every-one test xs) e) (λ t. fails xs t)
 
 -- ---- members of a list that is made of another
+
+pub in-front : {A : Type 0} {x : A} {xs : List A} (ys : List A) → In x xs → In x (xs ++ ys)
+in-front ys (first p) = first p
+in-front ys (later i) = later (in-front ys i)
 
 pub in-map : {A B : Type 0} (f : A → B) {x : A} {xs : List A} → In x xs → In (f x) (map f xs)
 in-map f (first p) = first (ap f p)

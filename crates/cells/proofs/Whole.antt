@@ -5,7 +5,7 @@ use Prim.Native.Nat.{ℕ, zero, suc, _+_, _-_, _≤_, _<_}
 use native.Mathlib.Omega.{arith}
 use native.Mathlib.Decide.{decLt}
 use borrow.Author.Tests.{lt-ltb, le-ltb}
-use lib.IntN.{ℤ, pos, negsuc, negℤ, subℕ, _+ℤ_}
+use lib.IntN.{ℤ, pos, negsuc, negℤ, subℕ, _+ℤ_, _-ℤ_}
 
 pub up : ℤ → ℕ
 up (pos n) = n
@@ -66,7 +66,11 @@ to {a = negsuc a} {b = negsuc b} e =
     let f : a ≡ b = omega arith in
     ap negsuc f
 
--- the same, of the two numbers of a pair
+-- the opposite of a difference
+pub minus : (a b : ℤ) → negℤ (b -ℤ a) ≡ a -ℤ b
+minus a b = to (omega (arith, sum b (negℤ a), opp a, opp (b -ℤ a), sum a (negℤ b), opp b))
+
+-- equations of the two numbers of a pair
 pub pair : {p q : ℤ × ℤ} → p .0 ≡ q .0 → p .1 ≡ q .1 → p ≡ q
 pair {p} {q} e f = ap₂ (λ (x y : ℤ). (x, y)) e f
 

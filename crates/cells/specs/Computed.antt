@@ -5,7 +5,7 @@ use mathlib.Core.List.{List, [], _∷_, _++_, map}
 use mathlib.Core.Option.{Option, none, some}
 use Prim.Native.Nat.{ℕ, zero, suc}
 use lib.Dec.{eqb, ltb}
-use lib.IntN.{ℤ, pos, negsuc, _-ℤ_}
+use lib.IntN.{ℤ, pos, negsuc, natAbs, _-ℤ_}
 use lib.ListN.{length}
 use Rattle.cells.specs.Kind.{Pair}
 use Rattle.cells.specs.Quads.{quads}
@@ -41,12 +41,8 @@ lowest f (r ∷ t ∷ rs) = lower (f (r .pair)) (lowest f (t ∷ rs))
 abbrev pub least : List Reading → Pair
 least rs = (lowest (λ (p : Pair). p .0) rs, lowest (λ (p : Pair). p .1) rs)
 
-abbrev pub above : ℤ → ℕ
-above (pos n) = n
-above (negsuc n) = 0
-
 abbrev pub placed : Pair → Reading → Entry
-placed low r = record { u = above (r .pair .0 -ℤ low .0); v = above (r .pair .1 -ℤ low .1); corner = r .corner }
+placed low r = record { u = natAbs (r .pair .0 -ℤ low .0); v = natAbs (r .pair .1 -ℤ low .1); corner = r .corner }
 
 -- ---- the order
 

@@ -21,14 +21,14 @@ use Rattle.cells.proofs.Counted.{exactly-same}
 use Rattle.laying.specs.Layout.{Given}
 use Rattle.fates.specs.declared.LabelParams.{LabelParams}
 use Rattle.fates.specs.declared.Fate.{Fate}
-use Rattle.fates.specs.Fates.{recordsAt, loneAt, fateOf, walkedOf, keyIn, seedIn, Laid, Walk, reachedFrom, loneFrom, Alone}
+use Rattle.fates.specs.Fates.{groupingBy, recordsAt, loneAt, fateOf, walkedOf, keyIn, seedIn, Laid, Walk, reachedFrom, loneFrom, Alone}
 use Rattle.fates.specs.Fates.Walk.{within, none, laid}
 use Rattle.fates.specs.Judged.{Labels, Becomes, fateAt, isLabelled}
 use Rattle.fates.specs.Index.{Indexed, runsAt}
 use Rattle.fates.specs.Judging.{Falls, Ruled, Judges, Tabled}
 use Rattle.fates.specs.Judging.Falls.{not-lowest, few-quads, no-labelling, few-lone, kept}
-use Rattle.fates.specs.Computed.{groupingBy, Computed}
-use Rattle.fates.proofs.LoneCorners.{key-small}
+use Rattle.fates.specs.Computed.{Computed}
+use Rattle.fates.proofs.LoneCorners.{key-small, laid-by}
 use Rattle.fates.proofs.Sizes.{some-members, lowest-by-members}
 use Rattle.fates.proofs.Claims.{own-quad, keys-rise, run-holding, run-counts, claims-count}
 use Rattle.fates.proofs.Stretches.{same-grouped, same-stretch, same-holding}
@@ -36,16 +36,10 @@ use Rattle.fates.proofs.Verdicts.{same-all, same-lone}
 
 -- ---- what a walk's word tells
 
-module _ {cells : List ℕ} {g : Grouping} {P : (ℕ → Pair) → ℕ → Type 0} {s : ℕ} {w : List ℕ} {a m : ℕ} where
-  laid-by : {v : ℕ} → Walk cells g P s w a m v → g .number s ≡ s → v ≢ 0 → Laid cells g P s w a m
-  laid-by (within n) e d = absurd (n e)
-  laid-by (none l n) e d = absurd (d refl)
-  laid-by (laid z p) e d = p
-
-  none-by : {v : ℕ} → Walk cells g P s w a m v → g .number s ≡ s → v ≡ 0 → (L : ℕ → Pair) → Labelling quads cells g s L → ⊥
-  none-by (within n) e d = absurd (n e)
-  none-by (none l n) e d = n
-  none-by (laid z p) e d = absurd (z d)
+none-by : {cells : List ℕ} {g : Grouping} {P : (ℕ → Pair) → ℕ → Type 0} {s : ℕ} {w : List ℕ} {a m v : ℕ} → Walk cells g P s w a m v → g .number s ≡ s → v ≡ 0 → (L : ℕ → Pair) → Labelling quads cells g s L → ⊥
+none-by (within n) e d = absurd (n e)
+none-by (none l n) e d = n
+none-by (laid z p) e d = absurd (z d)
 
 -- a fate with a labelling is that of a lowest quad whose walk was laid
 labelled-by : {params : LabelParams} {size reached lone claims : ℕ} {fate : Fate} → Falls params size reached lone claims fate → isLabelled fate ≡ true → (size ≢ 0) × (reached ≢ 0)

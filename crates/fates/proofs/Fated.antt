@@ -21,9 +21,11 @@ use Rattle.laying.specs.Layout.{mark, pairOf, Given}
 use Rattle.laying.specs.Invariant.{sign, count}
 use Rattle.laying.specs.Moves.{Rest, Stuck}
 use Rattle.laying.specs.Answers.{Fitted, Labelled, Cleared}
-use Rattle.fates.specs.Fates.{recordsAt, walkedAt, walkedOf, seedIn, Walk, reachedFrom}
+use Rattle.fates.specs.declared.LabelParams.{LabelParams}
+use Rattle.fates.specs.Fates.{groupingBy, recordsAt, walkedAt, walkedOf, seedIn, Walk, reachedFrom}
 use Rattle.fates.specs.Fates.Walk.{within, none, laid}
-use Rattle.fates.specs.Gathering.{Taken, numbersIn, groupingOf, Underway, Ready}
+use Rattle.fates.specs.Prepared.{Ready}
+use Rattle.fates.specs.Gathering.{Taken, numbersIn, Underway}
 use Rattle.fates.proofs.Draining.{holding}
 use Rattle.fates.proofs.OwnRuns.{reached-number}
 use Rattle.fates.proofs.Holdings.{holding-more}
@@ -124,9 +126,9 @@ module _ {span : ℕ} {cells : List ℕ} {g : Grouping} {s m : ℕ} {xs : List �
 
 -- ---- where the walks begin
 
-pub underway-start : {span : ℕ} {cells : List ℕ} {n : ℕ} {w : List ℕ} (least corners : ℕ) → Ready span cells n w → Underway span cells (groupingOf n (numbersIn span n w) least corners) 0 0 w
-underway-start {span} {cells} {n} {w} least corners r = record {
-  room = r .room;
+pub underway-start : {span : ℕ} {cells : List ℕ} {n : ℕ} {w : List ℕ} (params : LabelParams) → 4 * span + 27 * n ≤ length w → Ready span cells n w → Underway span cells (groupingBy n (numbersIn span n w) params) 0 0 w
+underway-start params room r = record {
+  room = room;
   table = r .table;
   blank = r .blank;
   groups = r .groups;

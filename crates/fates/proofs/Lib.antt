@@ -12,7 +12,6 @@ pub mod Singles
 pub mod Picking
 pub mod InOrder
 pub mod LoneCorners
-pub mod Computing
 pub mod Sizes
 pub mod FateWords
 pub mod Stretches

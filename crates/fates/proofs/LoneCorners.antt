@@ -99,10 +99,11 @@ module _ (cells : List ℕ) (s : ℕ) (L : ℕ → Pair) (xs : List ℕ) (a m : 
 
 -- ---- all of them
 
-laid-of : {cells : List ℕ} {g : Grouping} {P : (ℕ → Pair) → ℕ → Type 0} {s : ℕ} {w : List ℕ} {a m v : ℕ} → Walk cells g P s w a m v → g .number s ≡ s → v ≢ 0 → Laid cells g P s w a m
-laid-of (within n) e z = absurd (n e)
-laid-of (none i o) e z = absurd (z refl)
-laid-of (laid y p) e z = p
+-- a walk with a word is laid
+pub laid-by : {cells : List ℕ} {g : Grouping} {P : (ℕ → Pair) → ℕ → Type 0} {s : ℕ} {w : List ℕ} {a m v : ℕ} → Walk cells g P s w a m v → g .number s ≡ s → v ≢ 0 → Laid cells g P s w a m
+laid-by (within n) e z = absurd (n e)
+laid-by (none i o) e z = absurd (z refl)
+laid-by (laid y p) e z = p
 
 module _ (cells : List ℕ) (g : Grouping) (span m : ℕ) (xs : List ℕ) (G : Gathered cells g span (g .n) m xs) where
   few-records : m ≤ 4 * g .n
@@ -116,7 +117,7 @@ module _ (cells : List ℕ) (g : Grouping) (span m : ℕ) (xs : List ℕ) (G : G
     room = room;
     most = most;
     few = few-records;
-    small = λ k h. let o = G .own k h in key-small (laid-of (G .walks (seedIn xs a k) (o .small)) (o .lowest) (o .walked) .holding .keyed k h refl);
+    small = λ k h. let o = G .own k h in key-small (laid-by (G .walks (seedIn xs a k) (o .small)) (o .lowest) (o .walked) .holding .keyed k h refl);
   }
 
   module _ (ys : List ℕ) (r : ℕ) (F : LoneFrom xs ys a (loneAt span) m r) where

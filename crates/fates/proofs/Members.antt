@@ -8,8 +8,7 @@ use native.Mathlib.Omega.{arith}
 use lib.ListN.{length, getD, set}
 use Rattle.words.specs.Regions.{Filled}
 use Rattle.words.specs.Sorting.{equal}
-use Rattle.words.proofs.Regions.{kept-refl, kept-trans}
-use Rattle.words.proofs.Regions.{filled-at}
+use Rattle.words.proofs.Regions.{kept-refl, kept-trans, filled-at}
 use Rattle.words.proofs.Rank.{rec-on, equal-zero, equal-yes, equal-no, equal-le}
 
 abbrev pub Counted : (ℕ → ℕ) → ℕ → List ℕ → List ℕ → ℕ → ℕ → Type 0

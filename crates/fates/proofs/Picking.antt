@@ -7,9 +7,8 @@ use native.Mathlib.Decide.{ℕ-discrete}
 use native.Mathlib.Omega.{arith}
 use lib.ListN.{length, getD}
 use Rattle.words.specs.Order.{wordOf, Room, Ordered, groupedOf}
-use Rattle.words.specs.Regions.{Kept}
+use Rattle.words.specs.Regions.{Kept, two}
 use Rattle.words.proofs.Cuts.{ascends}
-use Rattle.words.specs.Regions.{two}
 use Rattle.words.proofs.Moving.{two-past, two-at}
 use Rattle.words.proofs.Regions.{kept-refl, kept-set}
 use Rattle.fates.specs.Fates.{recordsAt, loneAt, seedIn}

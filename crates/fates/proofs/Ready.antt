@@ -12,7 +12,7 @@ use Rattle.cells.proofs.Groups.{groups-same}
 use Rattle.laying.specs.Layout.{flagsAt, Given}
 use Rattle.fates.specs.Fates.{groupsAt, fatesAt}
 use Rattle.fates.specs.Runs.{Rising, Told}
-use Rattle.fates.specs.Prepared.{Sided, Prepared}
+use Rattle.fates.specs.Prepared.{Sided, Ready}
 use Rattle.fates.proofs.RunStarts.{walk-table}
 use Rattle.fates.proofs.Members.{equal-same}
 use Rattle.fates.proofs.Seating.{inside}
@@ -59,9 +59,8 @@ module _ (span : ℕ) (cells : List ℕ) (n : ℕ) (given : Given span cells n) 
       size-is : (s : ℕ) → s < n → getD es (fatesAt span n + s) 0 ≡ equal (λ (q : ℕ). getD zs (groupsAt span n + q) 0) n s
       size-is s h = past (fatesAt span n + s) (omega arith) (omega arith) ∙ ap (λ (k : ℕ). getD cs k 0) (omega arith) ∙ counted .holds s h
 
-      pub prepared : Prepared span cells n ws es
-      prepared = record {
-        len = len;
+      pub ready : Ready span cells n es
+      ready = record {
         blank = record { marks = λ q h. blank q (omega (arith, given .few)); first = λ c h. blank (2 * span + c) (omega arith); second = λ c h. blank (3 * span + c) (omega arith) };
         table = walk-table span cells n xs ys es (sided .table) told still (omega (arith, len));
         flags = flags .holds;

@@ -1,11 +1,11 @@
 -- The six words of a quad: what is stored there is read there, and no other word changes. Assumes nothing.
 use mathlib.Core.Path.{_≡_, ap₂, _∙_}
 use mathlib.Core.List.{List}
-use Prim.Native.Nat.{ℕ, _+_, _<_}
+use Prim.Native.Nat.{ℕ, _+_}
 use native.Mathlib.Omega.{arith}
 use lib.ListN.{length, getD, set, length-set}
-use lib.Seq.{getD-set-same, getD-set-other}
 use Rattle.words.specs.Regions.{Outside}
+use Rattle.laying.proofs.Settling.{skip, put}
 use Rattle.fates.specs.declared.Fate.{Fate}
 use Rattle.fates.specs.declared.Runs.{Runs}
 use Rattle.fates.specs.Fates.{fatesAt, walkedAt}
@@ -13,12 +13,6 @@ use Rattle.fates.specs.Judged.{fateNumber, claimedIn, fateFrom, fateAt}
 use Rattle.fates.specs.Index.{indexAt}
 use Rattle.fates.specs.Judging.{withFate, withRuns, Spacious}
 use Rattle.fates.proofs.FateWords.{read-back}
-
-skip : (l : List ℕ) (i v k : ℕ) → (k ≡ i → ⊥) → getD (set l i v) k 0 ≡ getD l k 0
-skip l i v k n = getD-set-other l i k v 0 n
-
-here : (l : List ℕ) (i v : ℕ) → i < length l → getD (set l i v) i 0 ≡ v
-here l i v h = getD-set-same l i v 0 h
 
 module _ (span n s : ℕ) (fate : Fate) (runs : Runs) (xs : List ℕ) (R : Spacious span n s xs) where
   abbrev i : ℕ
@@ -58,10 +52,10 @@ module _ (span n s : ℕ) (fate : Fate) (runs : Runs) (xs : List ℕ) (R : Spaci
   elsewhere k f w o = past-runs k o ∙ skip first (walkedAt span n + s) (claimedIn fate) k w ∙ skip xs (fatesAt span n + s) (fateNumber fate) k f
 
   number-there : getD stored (fatesAt span n + s) 0 ≡ fateNumber fate
-  number-there = past-runs (fatesAt span n + s) (λ j h e. omega (arith, R .small)) ∙ skip first (walkedAt span n + s) (claimedIn fate) (fatesAt span n + s) (λ e. omega (arith, R .small)) ∙ here xs (fatesAt span n + s) (fateNumber fate) (omega (arith, R .room, R .small))
+  number-there = past-runs (fatesAt span n + s) (λ j h e. omega (arith, R .small)) ∙ skip first (walkedAt span n + s) (claimedIn fate) (fatesAt span n + s) (λ e. omega (arith, R .small)) ∙ put xs (fatesAt span n + s) (fateNumber fate) (omega (arith, R .room, R .small))
 
   claims-there : getD stored (walkedAt span n + s) 0 ≡ claimedIn fate
-  claims-there = past-runs (walkedAt span n + s) (λ j h e. omega (arith, R .small)) ∙ here first (walkedAt span n + s) (claimedIn fate) (simp length-set (omega (arith, R .room, R .small)))
+  claims-there = past-runs (walkedAt span n + s) (λ j h e. omega (arith, R .small)) ∙ put first (walkedAt span n + s) (claimedIn fate) (simp length-set (omega (arith, R .room, R .small)))
 
   pub fate-there : fateAt span n stored s ≡ fate
   fate-there = ap₂ fateFrom number-there claims-there ∙ read-back fate
@@ -71,16 +65,16 @@ module _ (span n s : ℕ) (fate : Fate) (runs : Runs) (xs : List ℕ) (R : Spaci
       skip fifth (i + 3) (runs .all .count) i (λ e. omega arith)
       ∙ skip fourth (i + 2) (runs .all .at) i (λ e. omega arith)
       ∙ skip third (i + 1) (runs .lone .count) i (λ e. omega arith)
-      ∙ here second i (runs .lone .at) (simp length-set (omega (arith, R .room, R .small)))
+      ∙ put second i (runs .lone .at) (simp length-set (omega (arith, R .room, R .small)))
 
   pub lone-count : getD stored (i + 1) 0 ≡ runs .lone .count
   lone-count =
       skip fifth (i + 3) (runs .all .count) (i + 1) (λ e. omega arith)
       ∙ skip fourth (i + 2) (runs .all .at) (i + 1) (λ e. omega arith)
-      ∙ here third (i + 1) (runs .lone .count) (simp length-set (omega (arith, R .room, R .small)))
+      ∙ put third (i + 1) (runs .lone .count) (simp length-set (omega (arith, R .room, R .small)))
 
   pub all-at : getD stored (i + 2) 0 ≡ runs .all .at
-  all-at = skip fifth (i + 3) (runs .all .count) (i + 2) (λ e. omega arith) ∙ here fourth (i + 2) (runs .all .at) (simp length-set (omega (arith, R .room, R .small)))
+  all-at = skip fifth (i + 3) (runs .all .count) (i + 2) (λ e. omega arith) ∙ put fourth (i + 2) (runs .all .at) (simp length-set (omega (arith, R .room, R .small)))
 
   pub all-count : getD stored (i + 3) 0 ≡ runs .all .count
-  all-count = here fifth (i + 3) (runs .all .count) (simp length-set (omega (arith, R .room, R .small)))
+  all-count = put fifth (i + 3) (runs .all .count) (simp length-set (omega (arith, R .room, R .small)))

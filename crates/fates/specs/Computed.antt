@@ -8,14 +8,10 @@ use lib.ListN.{length}
 use Rattle.words.specs.Order.{groupedOf}
 use Rattle.cells.specs.Cells.{Neighbours, everyone}
 use Rattle.cells.specs.Groups.{Groups}
-use Rattle.cells.specs.Listed.{Grouping}
 use Rattle.fates.specs.declared.LabelParams.{LabelParams}
-use Rattle.fates.specs.Fates.{recordsAt, loneAt, Laid, reachedFrom, loneFrom}
+use Rattle.fates.specs.Fates.{groupingBy, recordsAt, loneAt, Laid, reachedFrom, loneFrom}
 use Rattle.fates.specs.Judged.{Becomes, fateAt, isLabelled}
 use Rattle.fates.specs.Index.{Indexed}
-
-abbrev pub groupingBy : ℕ → (ℕ → ℕ) → LabelParams → Grouping
-groupingBy n number params = record { n = n; number = number; least-cells = params .quads; least-corners = params .corners }
 
 -- m records of lone corners ascend by group, then pair, and `all` of reached corners so far as these differ
 pub record Computed (span : ℕ) (cells : List ℕ) (n : ℕ) (params : LabelParams) (xs ys : List ℕ) : Type 0 where

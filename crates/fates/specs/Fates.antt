@@ -11,6 +11,11 @@ use Rattle.cells.specs.Kind.{Pair, ReachedCorner, Lone}
 use Rattle.cells.specs.Listed.{Grouping, members, Labelling}
 use Rattle.cells.specs.Quads.{quads}
 use Rattle.laying.specs.Layout.{label}
+use Rattle.fates.specs.declared.LabelParams.{LabelParams}
+
+-- n quads with their groups' numbers, and the least quads and corners of a component
+abbrev pub groupingBy : ℕ → (ℕ → ℕ) → LabelParams → Grouping
+groupingBy n number params = record { n = n; number = number; least-cells = params .quads; least-corners = params .corners }
 
 -- where the groups' numbers, the fates, the records of corners and the walks' words stand; lone records take the place of the side table
 abbrev pub groupsAt : ℕ → ℕ → ℕ

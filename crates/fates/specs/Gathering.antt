@@ -7,10 +7,10 @@ use lib.ListN.{length, getD}
 use Rattle.cells.specs.Cells.{cell, everyone, Neighbours}
 use Rattle.cells.specs.Groups.{Groups}
 use Rattle.cells.specs.Listed.{Grouping}
-use Rattle.words.specs.Sorting.{equal}
-use Rattle.laying.specs.Layout.{mark, firstWord, secondWord, flagsAt, Table, Blank, Unscanned}
+use Rattle.laying.specs.Layout.{mark, firstWord, secondWord, Table, Blank, Unscanned}
 use Rattle.laying.specs.Settling.{Bears}
-use Rattle.fates.specs.Fates.{groupsAt, recordsAt, fateOf, keyIn, cornerIn, seedIn, Gathered}
+use Rattle.fates.specs.declared.LabelParams.{LabelParams}
+use Rattle.fates.specs.Fates.{groupingBy, groupsAt, recordsAt, keyIn, cornerIn, seedIn, Gathered}
 
 -- a corner has two words that are labels', or none
 pub record Worded (span : ℕ) (w : List ℕ) : Type 0 where
@@ -66,9 +66,6 @@ pub record Taken (span n seed : ℕ) (xs ys : List ℕ) (m r t : ℕ) : Type 0 w
 abbrev pub numbersIn : ℕ → ℕ → List ℕ → ℕ → ℕ
 numbersIn span n w q = getD w (groupsAt span n + q) 0
 
-abbrev pub groupingOf : ℕ → (ℕ → ℕ) → ℕ → ℕ → Grouping
-groupingOf n number least corners = record { n = n; number = number; least-cells = least; least-corners = corners }
-
 -- what the walks of the seeds from s on ask, and what those of the seeds below s have left
 pub record Underway (span : ℕ) (cells : List ℕ) (g : Grouping) (s m : ℕ) (w : List ℕ) : Type 0 where
   pub room : 4 * span + 27 * g .n ≤ length w
@@ -82,27 +79,16 @@ pub record Underway (span : ℕ) (cells : List ℕ) (g : Grouping) (s m : ℕ) (
 -- the same of some groups
 pub record Begun (span : ℕ) (cells : List ℕ) (n s m : ℕ) (w : List ℕ) : Type 0 where
   pub number : ℕ → ℕ
-  pub least : ℕ
-  pub corners : ℕ
-  pub underway : Underway span cells (groupingOf n number least corners) s m w
+  pub params : LabelParams
+  pub underway : Underway span cells (groupingBy n number params) s m w
 
 -- one seed more is done, whatever the least quads and corners of a component
 abbrev pub Advances : ℕ → List ℕ → (n s m r : ℕ) → List ℕ → List ℕ → Type 0
 Advances span cells n s m r xs ys =
-    (number : ℕ → ℕ) (least corners : ℕ) → Underway span cells (groupingOf n number least corners) s m xs → Underway span cells (groupingOf n number least corners) (s + 1) r ys
-
--- the table of the sides and the groups are there, no walk was taken, and the number of its group's members stands where each quad's fate is
--- to be
-pub record Ready (span : ℕ) (cells : List ℕ) (n : ℕ) (w : List ℕ) : Type 0 where
-  pub room : 4 * span + 27 * n ≤ length w
-  pub table : Table span cells n w
-  pub blank : Blank span n w
-  pub flags : (k : ℕ) → k < 4 * n → getD w (flagsAt span n + k) 0 ≡ 0
-  pub groups : Groups (Neighbours 4 cells everyone) n (numbersIn span n w)
-  pub sizes : (q : ℕ) → q < n → fateOf span n w q ≡ equal (numbersIn span n w) n q
+    (number : ℕ → ℕ) (params : LabelParams) → Underway span cells (groupingBy n number params) s m xs → Underway span cells (groupingBy n number params) (s + 1) r ys
 
 -- every walk was taken, and the groups are as they were
 pub record Gathers (span : ℕ) (cells : List ℕ) (n m : ℕ) (xs ys : List ℕ) : Type 0 where
   pub len : length ys ≡ length xs
   pub numbers : (q : ℕ) → q < n → numbersIn span n ys q ≡ numbersIn span n xs q
-  pub gathered : (least corners : ℕ) → Gathered cells (groupingOf n (numbersIn span n xs) least corners) span n m ys
+  pub gathered : (params : LabelParams) → Gathered cells (groupingBy n (numbersIn span n xs) params) span n m ys

@@ -32,10 +32,9 @@ pub record Sided (span : ℕ) (cells : List ℕ) (n : ℕ) (xs ys : List ℕ) : 
 
 -- the first walk may begin: no quad is marked, no corner has words, no run was scanned; and each group's place among the fates has the
 -- number of its quads
-pub record Prepared (span : ℕ) (cells : List ℕ) (n : ℕ) (xs ys : List ℕ) : Type 0 where
-  pub len : length ys ≡ length xs
-  pub blank : Blank span n ys
-  pub table : Table span cells n ys
-  pub flags : (k : ℕ) → k < 4 * n → getD ys (flagsAt span n + k) 0 ≡ 0
-  pub groups : Numbered cells n ys (groupsAt span n)
-  pub sizes : (s : ℕ) → s < n → fateOf span n ys s ≡ equal (λ (q : ℕ). getD ys (groupsAt span n + q) 0) n s
+pub record Ready (span : ℕ) (cells : List ℕ) (n : ℕ) (w : List ℕ) : Type 0 where
+  pub blank : Blank span n w
+  pub table : Table span cells n w
+  pub flags : (k : ℕ) → k < 4 * n → getD w (flagsAt span n + k) 0 ≡ 0
+  pub groups : Numbered cells n w (groupsAt span n)
+  pub sizes : (s : ℕ) → s < n → fateOf span n w s ≡ equal (λ (q : ℕ). getD w (groupsAt span n + q) 0) n s

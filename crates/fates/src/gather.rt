@@ -6,7 +6,8 @@ ghost use lib.ListN.{length};
 ghost use Rattle.mesh.specs.Lists.{mostCorners};
 ghost use Rattle.laying.specs.Layout.{Given, firstWord};
 ghost use Rattle.laying.specs.Answers.{Fitted};
-ghost use Rattle.fates.specs.Gathering.{Worded, Drawn, Emptied, Taken, numbersIn, Begun, Advances, Ready, Gathers};
+ghost use Rattle.fates.specs.Prepared.{Ready};
+ghost use Rattle.fates.specs.Gathering.{Worded, Drawn, Emptied, Taken, numbersIn, Begun, Advances, Gathers};
 use laying::Walked;
 use laying::inner::clear::clear;
 use laying::inner::clear::wipe;
@@ -132,7 +133,7 @@ fn gather_seed(
 
 // All quads in order: every walk, and the records, of which the number is answered.
 pub(crate) fn gather(quads: &[u32], work: &mut [u32], span: usize, n: usize) -> usize
-    requires { ⌜ Given span (now quads) n ⌝ }
+    requires { ⌜ Given span (now quads) n × (4 * span + 27 * n ≤ length (now work)) ⌝ }
     requires { ⌜ Ready span (now quads) n (now work) ⌝ }
     ensures { λ r. ⌜ Gathers span (now (quads .entry)) n r (now (work .entry)) (now (work .exit)) ⌝ }
 {

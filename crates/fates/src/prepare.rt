@@ -10,7 +10,7 @@ ghost use Rattle.words.specs.Sorting.{equal};
 ghost use Rattle.laying.specs.Layout.{keyAt, Given};
 ghost use Rattle.fates.specs.Fates.{groupsAt};
 ghost use Rattle.fates.specs.Runs.{Rising, Told, Started};
-ghost use Rattle.fates.specs.Prepared.{Sided, Prepared};
+ghost use Rattle.fates.specs.Prepared.{Sided, Ready};
 use cells::inner::groups;
 use laying::inner::layout::FLAGS;
 use laying::inner::layout::GROUPS;
@@ -105,7 +105,7 @@ fn count_members(work: &mut [u32], at: usize, n: usize)
 pub(crate) fn prepare(quads: &[u32], work: &mut [u32], span: usize, n: usize)
     requires { ⌜ Given span (now quads) n ⌝ }
     requires { ⌜ 4 * span + 26 * n ≤ length (now work) ⌝ }
-    ensures { λ _. ⌜ Prepared span (now (quads .entry)) n (now (work .entry)) (now (work .exit)) ⌝ }
+    ensures { λ _. ⌜ Ready span (now (quads .entry)) n (now (work .exit)) ⌝ }
 {
     list_groups(quads, work, span, n);
     tell_runs(work, span, n);

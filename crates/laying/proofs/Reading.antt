@@ -17,16 +17,13 @@ word-sum w = omega (arith, sum (pos w) (negℤ (pos centre)), opp (pos centre), 
 pub step-sum : (p q : ℕ) → up (label p -ℤ label q) + q ≡ p + down (label p -ℤ label q)
 step-sum p q = omega (arith, sum (label p) (negℤ (label q)), opp (label q), word-sum p, word-sum q)
 
--- a label and a step from it
-pub outward-sum : (b p q : ℕ) → up (label b +ℤ (label p -ℤ label q)) + (q + centre) ≡ (b + p) + down (label b +ℤ (label p -ℤ label q))
-outward-sum b p q = omega (arith, sum (label b) (label p -ℤ label q), step-sum p q, word-sum b)
-
 -- two words of one label are one word
 pub same-word : (v w : ℕ) → label v ≡ label w → v ≡ w
 same-word v w e = omega (arith, of e, word-sum v, word-sum w)
 
+-- a label and a step from it
 pub far-word : (b p q : ℕ) → q ≤ b + p → label b +ℤ (label p -ℤ label q) ≡ label ((b + p) - q)
-far-word b p q h = to (omega (arith, outward-sum b p q, word-sum ((b + p) - q)))
+far-word b p q h = to (omega (arith, sum (label b) (label p -ℤ label q), step-sum p q, word-sum b, word-sum ((b + p) - q)))
 
 pub word-of : (w : ℕ) → label w +ℤ pos centre ≡ pos w
 word-of w = to (omega (arith, sum (label w) (pos centre), word-sum w, up-pos centre, up-pos w))
@@ -40,6 +37,12 @@ difference-fits (negsuc n) a b e h k =
     let f : n < 2147483648 = omega (arith, up-negsuc n) in
     record { sfits = f }
 
--- a label as the machine has it
+pub step-fits : (p q : ℕ) → p < 2 * centre → q < 2 * centre → SFits w32 (label p -ℤ label q)
+step-fits p q h k = difference-fits (label p -ℤ label q) p q (step-sum p q) (omega arith) (omega arith)
+
+-- a label and a step as the machine has them
 pub machine-label : (z : ℤ) (w : ℕ) → z ≡ label w → w < 2 * centre → toZ w32 (ofZ w32 z) ≡ label w
 machine-label z w e h = ap (λ (t : ℤ). toZ w32 (ofZ w32 t)) e ∙ toZ-ofZ (difference-fits (label w) w centre (word-sum w) (omega arith) (omega arith))
+
+pub machine-step : (z : ℤ) (p q : ℕ) → z ≡ label p -ℤ label q → p < 2 * centre → q < 2 * centre → toZ w32 (ofZ w32 z) ≡ label p -ℤ label q
+machine-step z p q e h k = ap (λ (t : ℤ). toZ w32 (ofZ w32 t)) e ∙ toZ-ofZ (step-fits p q h k)

@@ -12,7 +12,7 @@ use Rattle.cells.specs.Cells.{cell}
 use Rattle.cells.specs.Kind.{Pair, _⊖_, Reached, Fits}
 use Rattle.cells.specs.Kind.Chain.{on}
 use Rattle.cells.specs.Quads.{OneStep, Square, Round, quads}
-use Rattle.cells.proofs.Squares.{square-forced}
+use Rattle.cells.proofs.Squares.{step-back, square-forced}
 use Rattle.laying.specs.Layout.{Near, mark, queued, firstWord, secondWord, pairOf, startOf, endOf, Across, Given}
 use Rattle.laying.specs.Invariant.{Waits, Cornered, Cover, Meets, State}
 use Rattle.laying.specs.Settling.{Bears, Differs, Good, Placed, EndsAt, SpreadAt}
@@ -20,7 +20,7 @@ use Rattle.laying.specs.Moves.{stuck, Grows, Rest, Went}
 use Rattle.laying.proofs.Reading.{same-word}
 use Rattle.laying.proofs.Around.{each, SquareFrom, square-from}
 use Rattle.laying.proofs.Facing.{corner-below, across-next}
-use Rattle.laying.proofs.Turning.{pairAt, step-back, forced-square, far-near}
+use Rattle.laying.proofs.Turning.{pairAt, forced-square, far-near}
 use Rattle.laying.proofs.Counts.{count-le, count-lt, count-more, eq-or-lt}
 use Rattle.laying.proofs.Settling.{skip, put}
 use Rattle.laying.proofs.Flagged.{flags-still}

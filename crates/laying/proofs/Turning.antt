@@ -1,13 +1,13 @@
--- Unit steps and squares in words: a step goes back, changes a word by one at most, and its ends force the far corners' words, which are
--- one further from the centre at most. Assumes nothing.
-use mathlib.Core.Path.{_≡_, sym, ap}
+-- Unit steps and squares in words: a step changes a word by one at most, and its ends force the far corners' words, which are one further
+-- from the centre at most. Assumes nothing.
+use mathlib.Core.Path.{_≡_, sym, ap, _∙_}
 use Prim.Native.Nat.{ℕ, _+_, _-_, _≤_}
 use native.Mathlib.Omega.{arith}
 use lib.IntN.{ℤ, pos, negsuc, negℤ, _+ℤ_, _-ℤ_}
 use Rattle.cells.specs.Kind.{Pair, _⊖_}
 use Rattle.cells.specs.Quads.{OneStep, Square}
 use Rattle.cells.specs.Quads.OneStep.{east, north, west, south}
-use Rattle.cells.proofs.Whole.{up, down, up-pos, up-negsuc, sum, opp, of, to, pair}
+use Rattle.cells.proofs.Whole.{up, down, up-pos, up-negsuc, sum, opp, of, to, minus, pair}
 use Rattle.laying.specs.Layout.{label, Near}
 use Rattle.laying.specs.Settling.{Ends}
 use Rattle.laying.proofs.Reading.{word-sum, step-sum, far-word}
@@ -15,19 +15,6 @@ use Rattle.laying.proofs.Reading.{word-sum, step-sum, far-word}
 -- the pair of two words
 abbrev pub pairAt : ℕ → ℕ → Pair
 pairAt x y = (label x, label y)
-
-opposite : (a b k : ℤ) → b -ℤ a ≡ k → a -ℤ b ≡ negℤ k
-opposite a b k e = to (omega (arith, of e, sum b (negℤ a), opp a, sum a (negℤ b), opp b, opp k))
-
-opposites : (a b s : Pair) → b ⊖ a ≡ s → a ⊖ b ≡ (negℤ (s .0), negℤ (s .1))
-opposites a b s e = pair (opposite (a .0) (b .0) (s .0) (ap (λ (p : Pair). p .0) e)) (opposite (a .1) (b .1) (s .1) (ap (λ (p : Pair). p .1) e))
-
--- the same side run the other way
-pub step-back : (a b : Pair) → OneStep (b ⊖ a) → OneStep (a ⊖ b)
-step-back a b (east e) = west (opposites a b (pos 1, pos 0) e)
-step-back a b (north e) = south (opposites a b (pos 0, pos 1) e)
-step-back a b (west e) = east (opposites a b (negsuc 0, pos 0) e)
-step-back a b (south e) = north (opposites a b (pos 0, negsuc 0) e)
 
 -- two words differ by one at most
 pub record Beside (x y : ℕ) : Type 0 where
@@ -46,10 +33,6 @@ step-beside xa ya xb yb (north e) = both xa ya xb yb (pos 0, pos 1) e (omega (ar
 step-beside xa ya xb yb (west e) = both xa ya xb yb (negsuc 0, pos 0) e (omega (arith, up-negsuc 0)) (omega (arith, up-negsuc 0)) (omega (arith, up-pos 0)) (omega (arith, up-pos 0))
 step-beside xa ya xb yb (south e) = both xa ya xb yb (pos 0, negsuc 0) e (omega (arith, up-pos 0)) (omega (arith, up-pos 0)) (omega (arith, up-negsuc 0)) (omega (arith, up-negsuc 0))
 
--- b less the step from q to p
-inward : (b p q : ℕ) → p ≤ b + q → label ((b + q) - p) ≡ label b +ℤ negℤ (label p -ℤ label q)
-inward b p q h = to (omega (arith, sum (label b) (negℤ (label p -ℤ label q)), opp (label p -ℤ label q), step-sum p q, word-sum b, word-sum ((b + q) - p)))
-
 module _ (xa ya xb yb : ℕ) (ends : Ends xa ya xb yb) where
   -- d from a, and from c back along the side
   fourth-first : label ((xa + ya) - yb) ≡ label ((xb + ya) - yb) -ℤ (label xb -ℤ label xa)
@@ -63,7 +46,7 @@ module _ (xa ya xb yb : ℕ) (ends : Ends xa ya xb yb) where
     pub forced-square : Square (pairAt xa ya) (pairAt xb yb) (pairAt ((xb + ya) - yb) ((yb + xb) - xa)) (pairAt ((xa + ya) - yb) ((ya + xb) - xa))
     forced-square = record {
       side = unit;
-      third = pair (inward xb yb ya (omega (arith, ends .xb-near .low, ends .ya-near .low, ends .yb-near .high))) (sym (far-word yb xb xa (omega (arith, ends .xb-near .low, ends .yb-near .low, ends .xa-near .high))));
+      third = pair (sym (ap (λ (z : ℤ). label xb +ℤ z) (minus (label ya) (label yb)) ∙ far-word xb ya yb (omega (arith, ends .xb-near .low, ends .ya-near .low, ends .yb-near .high)))) (sym (far-word yb xb xa (omega (arith, ends .xb-near .low, ends .yb-near .low, ends .xa-near .high))));
       fourth = pair fourth-first fourth-second;
     }
 

@@ -6,7 +6,8 @@ ghost use Rattle.mesh.specs.Lists.{mostCorners};
 ghost use Rattle.laying.specs.Layout.{Given};
 ghost use Rattle.laying.specs.Settling.{Settled, Placed, Ends, EndsAt, Spread, SpreadAt};
 use crate::inner::corners::corner_of;
-use crate::inner::labels::far;
+use crate::inner::labels::outward;
+use crate::inner::labels::step_from;
 
 // Corner c is given the words x and y, or has them; false where it has others.
 fn settle(work: &mut [u32], span: usize, c: usize, x: u32, y: u32) -> bool
@@ -64,10 +65,13 @@ fn spread(
     requires { ⌜ Ends xa ya xb yb ⌝ }
     ensures { λ r. ⌜ Spread span (now (work .entry)) (now (work .exit)) c d xa ya xb yb r ⌝ }
 {
-    let xc = far(xb, ya, yb);
-    let yc = far(yb, xb, xa);
-    let xd = far(xa, ya, yb);
-    let yd = far(ya, xb, xa);
+    // The step from a to b, turned: (x, y) becomes (-y, x).
+    let x = -step_from(ya, yb);
+    let y = step_from(xa, xb);
+    let xc = outward(xb, x);
+    let yc = outward(yb, y);
+    let xd = outward(xa, x);
+    let yd = outward(ya, y);
     place(work, span, c, d, xc, yc, xd, yd)
 }
 

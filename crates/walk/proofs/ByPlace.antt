@@ -13,6 +13,7 @@ use Rattle.cells.specs.Listed.{In, Sorted, Entry, Before, Some, Listed}
 use Rattle.cells.specs.Listed.In.{first, later}
 use Rattle.cells.specs.Listed.Sorted.{more}
 use Rattle.cells.specs.Listed.Before.{by-u, by-v}
+use Rattle.cells.proofs.Tests.{not-in}
 use Rattle.cells.proofs.Listing.{add-inj}
 use Rattle.walk.specs.Read.{entryAt, entriesFrom}
 use Rattle.walk.specs.Demanded.{Place, AtLeast, Lists}
@@ -25,7 +26,7 @@ abbrev past : Entry
 past = record { u = 0; v = 0; corner = 0 }
 
 place-of : {e : Entry} (es : List Entry) → In e es → Place (length es) (λ p. getD es p past ≡ e)
-place-of [] i = elim i [ ]
+place-of [] i = not-in i
 place-of (f ∷ es) (first q) = record { at = 0; small = omega arith; is = sym q }
 place-of (f ∷ es) (later i) =
     let r = place-of es i in

@@ -11,7 +11,8 @@ use Rattle.cells.proofs.Rectangle.{holes-are}
 use Rattle.fates.specs.declared.Run.{Run}
 use Rattle.walk.specs.Emitted.{xIn, yIn, leastX, leastY, entriesTo, entriesOf}
 use Rattle.walk.specs.Emitting.{Ascending}
-use Rattle.walk.proofs.Shifted.{entryAt, none-yet, entries-more, Taken, least-le, least-met, entries-sorted}
+use Rattle.walk.specs.Demanded.{Place}
+use Rattle.walk.proofs.Shifted.{entryAt, none-yet, entries-more, least-le, least-met, entries-sorted}
 use Rattle.walk.proofs.Counting.{run-length}
 
 -- ---- one entry more
@@ -54,7 +55,7 @@ module _ (w : List ℕ) (run : Run) (o : Ascending w run) where
       at k l e (yes y) = sym e ∙ ap (xIn w a) y
       at k l e (no y) = omega (arith, x-low 0 h, x-up 0 k (omega (arith, y)) l)
 
-      go : Taken count (λ k. xIn w a k ≡ leastX w run) → leastX w run ≡ xIn w a 0
+      go : Place count (λ k. xIn w a k ≡ leastX w run) → leastX w run ≡ xIn w a 0
       go t = at (t .at) (t .small) (t .is) (ℕ-discrete (t .at) 0)
 
   -- ---- the rectangle

@@ -10,14 +10,12 @@ use Rattle.cells.specs.Listed.{In, Sorted, Entry, Before}
 use Rattle.cells.specs.Listed.In.{first, later}
 use Rattle.cells.specs.Listed.Sorted.{none, more}
 use Rattle.cells.specs.Listed.Before.{by-u, by-v}
+use Rattle.cells.proofs.Tests.{not-in, in-front}
 use Rattle.fates.specs.Fates.{keyIn, cornerIn}
 use Rattle.walk.specs.Emitted.{xIn, yIn, leastOf, entriesTo}
+use Rattle.walk.specs.Demanded.{Place}
 
 -- ---- lists with one more at their end
-
-in-front : {e : Entry} {es : List Entry} (fs : List Entry) → In e es → In e (es ++ fs)
-in-front fs (first p) = first p
-in-front fs (later i) = later (in-front fs i)
 
 in-last : {e : Entry} (es : List Entry) → In e (es ++ (e ∷ []))
 in-last [] = first refl
@@ -27,12 +25,9 @@ data Where (e f : Entry) (es : List Entry) : Type 0 where
   old : In e es → Where e f es
   new : e ≡ f → Where e f es
 
-in-none : {e : Entry} → In e [] → ⊥
-in-none i = elim i [ ]
-
 in-snoc : {e f : Entry} (es : List Entry) → In e (es ++ (f ∷ [])) → Where e f es
 in-snoc [] (first p) = Where.new p
-in-snoc [] (later i) = absurd (in-none i)
+in-snoc [] (later i) = not-in i
 in-snoc (g ∷ es) (first p) = Where.old (first p)
 in-snoc {e} {f} (g ∷ es) (later i) = go (in-snoc es i)
   where
@@ -41,20 +36,14 @@ in-snoc {e} {f} (g ∷ es) (later i) = go (in-snoc es i)
     go (Where.new p) = Where.new p
 
 sorted-snoc : {f : Entry} (es : List Entry) → Sorted Before es → ((e : Entry) → In e es → Before e f) → Sorted Before (es ++ (f ∷ []))
-sorted-snoc [] none h = more (λ g i. absurd (in-none i)) none
+sorted-snoc [] none h = more (λ g i. not-in i) none
 sorted-snoc {f} (e ∷ es) (more o r) h = more (λ g i. go g (in-snoc es i)) (sorted-snoc es r (λ g i. h g (later i)))
   where
     go : (g : Entry) → Where g f es → Before e g
     go g (Where.old j) = o g j
     go g (Where.new p) = subst (Before e) (sym p) (h e (first refl))
 
--- one of m numbers, as P says
-pub record Taken (m : ℕ) (P : ℕ → Type 0) : Type 0 where
-  pub at : ℕ
-  pub small : at < m
-  pub is : P at
-
-wider : {m : ℕ} {P : ℕ → Type 0} → Taken m P → Taken (suc m) P
+wider : {m : ℕ} {P : ℕ → Type 0} → Place m P → Place (suc m) P
 wider t = record { at = t .at; small = omega (arith, t .small); is = t .is }
 
 -- ---- the least
@@ -73,12 +62,12 @@ least-le f (suc m) k h = go (ℕ-discrete k m) (λ l. least-le f m k l)
     go (no p) r = omega (arith, r (omega (arith, p)))
 
 -- it is one of them, unless there is none below the number that stands for none
-pub least-met : (f : ℕ → ℕ) (m : ℕ) → leastOf f m < 32768 → Taken m (λ k. f k ≡ leastOf f m)
+pub least-met : (f : ℕ → ℕ) (m : ℕ) → leastOf f m < 32768 → Place m (λ k. f k ≡ leastOf f m)
 unfolding leastOf
 least-met f zero h = absurd (omega arith)
 least-met f (suc m) h = go (decLt (f m) (leastOf f m)) (λ l. least-met f m l)
   where
-    go : Dec (f m < leastOf f m) → (leastOf f m < 32768 → Taken m (λ k. f k ≡ leastOf f m)) → Taken (suc m) (λ k. f k ≡ min (f m) (leastOf f m))
+    go : Dec (f m < leastOf f m) → (leastOf f m < 32768 → Place m (λ k. f k ≡ leastOf f m)) → Place (suc m) (λ k. f k ≡ min (f m) (leastOf f m))
     go (yes l) r = record { at = m; small = omega arith; is = omega (arith, l) }
     go (no l) r =
         let e : min (f m) (leastOf f m) ≡ leastOf f m = omega (arith, l) in
@@ -103,12 +92,12 @@ module _ (w : List ℕ) (a : ℕ) where
   length-entries x0 y0 zero = ap length (none-yet x0 y0)
   length-entries x0 y0 (suc m) = ap length (entries-more x0 y0 m) ∙ length-append (entriesTo w a x0 y0 m) (entryAt x0 y0 m ∷ []) ∙ omega (arith, length-entries x0 y0 m)
 
-  pub entry-of : (x0 y0 m : ℕ) (e : Entry) → In e (entriesTo w a x0 y0 m) → Taken m (λ k. e ≡ entryAt x0 y0 k)
+  pub entry-of : (x0 y0 m : ℕ) (e : Entry) → In e (entriesTo w a x0 y0 m) → Place m (λ k. e ≡ entryAt x0 y0 k)
   unfolding entriesTo
-  entry-of x0 y0 zero e i = absurd (in-none i)
+  entry-of x0 y0 zero e i = not-in i
   entry-of x0 y0 (suc m) e i = go (in-snoc (entriesTo w a x0 y0 m) i) (λ j. entry-of x0 y0 m e j)
     where
-      go : Where e (entryAt x0 y0 m) (entriesTo w a x0 y0 m) → (In e (entriesTo w a x0 y0 m) → Taken m (λ k. e ≡ entryAt x0 y0 k)) → Taken (suc m) (λ k. e ≡ entryAt x0 y0 k)
+      go : Where e (entryAt x0 y0 m) (entriesTo w a x0 y0 m) → (In e (entriesTo w a x0 y0 m) → Place m (λ k. e ≡ entryAt x0 y0 k)) → Place (suc m) (λ k. e ≡ entryAt x0 y0 k)
       go (Where.old j) r = wider (r j)
       go (Where.new p) r = record { at = m; small = omega arith; is = p }
 

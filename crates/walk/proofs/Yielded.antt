@@ -23,14 +23,15 @@ use Rattle.fates.specs.declared.LabelParams.{LabelParams}
 use Rattle.fates.specs.declared.Run.{Run}
 use Rattle.fates.specs.declared.Fate.{Fate}
 use Rattle.fates.specs.declared.Fate.the-variants.{NotLowest, TooFewQuads, NoLabelling, TooFewLone, Kept}
-use Rattle.fates.specs.Fates.{loneAt, cornerIn, Laid, loneFrom}
+use Rattle.fates.specs.Fates.{groupingBy, loneAt, cornerIn, Laid, loneFrom}
 use Rattle.fates.specs.Judged.{Labels, Becomes, fateAt, isLabelled, isKept}
 use Rattle.fates.specs.Index.{runsAt}
-use Rattle.fates.specs.Computed.{groupingBy, Computed}
+use Rattle.fates.specs.Computed.{Computed}
 use Rattle.walk.specs.Emitted.{xIn, yIn, leastX, leastY, entriesOf, outTo}
 use Rattle.walk.specs.Emitting.{Ascending, Writable}
+use Rattle.walk.specs.Demanded.{Place}
 use Rattle.walk.proofs.Above.{over}
-use Rattle.walk.proofs.Shifted.{entryAt, Taken, least-le, least-met, entry-of, entry-in, entries-sorted}
+use Rattle.walk.proofs.Shifted.{entryAt, least-le, least-met, entry-of, entry-in, entries-sorted}
 use Rattle.walk.proofs.Runs.{Held, exactly, held, ascending}
 use Rattle.walk.proofs.Counting.{run-length, joined, passed}
 
@@ -74,10 +75,10 @@ module _ (cells : List ℕ) (s : ℕ) (L : ℕ → Pair) (w : List ℕ) (run : R
     ordered = entries-sorted w a x0 y0 m (r .rises) low;
   }
     where
-      taken-u : Taken m (λ k. xIn w a k ≡ x0) → Some (entriesOf w run) (λ f. f .u ≡ 0)
+      taken-u : Place m (λ k. xIn w a k ≡ x0) → Some (entriesOf w run) (λ f. f .u ≡ 0)
       taken-u t = record { entry = entryAt w a x0 y0 (t .at); among = entry-in w a x0 y0 m (t .at) (t .small); is = omega (arith, t .is) }
 
-      taken-v : Taken m (λ k. yIn w a k ≡ y0) → Some (entriesOf w run) (λ f. f .v ≡ 0)
+      taken-v : Place m (λ k. yIn w a k ≡ y0) → Some (entriesOf w run) (λ f. f .v ≡ 0)
       taken-v t = record { entry = entryAt w a x0 y0 (t .at); among = entry-in w a x0 y0 m (t .at) (t .small); is = omega (arith, t .is) }
 
 -- as many corners are lone under one assignment that fits as under another

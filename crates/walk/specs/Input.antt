@@ -7,7 +7,7 @@ use Rattle.cells.specs.Groups.{Groups}
 use Rattle.cells.specs.Listed.{Entry, Grouping, Components}
 use Rattle.cells.specs.Quads.{quads}
 use Rattle.fates.specs.declared.LabelParams.{LabelParams}
-use Rattle.fates.specs.Computed.{groupingBy}
+use Rattle.fates.specs.Fates.{groupingBy}
 
 pub record Input : Type 0 where
   pub quads : List ℕ

@@ -1,9 +1,8 @@
 // Labels as words of the workspace: a label and 16,384, so that 0 can mean that there is none. Steps are taken on the labels themselves.
 ghost use mathlib.Core.Path.{_≡_};
-ghost use Prim.Native.Nat.{_+_, _*_, _-_, _<_};
+ghost use Prim.Native.Nat.{_*_, _<_};
 ghost use lib.IntN.{_+ℤ_, _-ℤ_};
-ghost use Rattle.mesh.specs.Lists.{mostCorners};
-ghost use Rattle.laying.specs.Layout.{centre, label, Word, InRange, Near};
+ghost use Rattle.laying.specs.Layout.{centre, label, Word, InRange};
 
 const CENTRE: i32 = 16384;
 
@@ -21,18 +20,18 @@ pub fn to_word(x: i32) -> u32
     (x + CENTRE) as u32
 }
 
-// b and the step from q to p.
-fn outward(b: i32, p: i32, q: i32) -> i32
-    requires { ⌜ InRange b × InRange p × InRange q ⌝ }
-    ensures { λ r. ⌜ r ≡ b +ℤ (p -ℤ q) ⌝ }
+// The step from the label of q to that of p.
+pub(crate) fn step_from(q: u32, p: u32) -> i32
+    requires { ⌜ (q < 2 * centre) × (p < 2 * centre) ⌝ }
+    ensures { λ r. ⌜ r ≡ label p -ℤ label q ⌝ }
 {
-    b + (p - q)
+    from_word(p) - from_word(q)
 }
 
-// The same of words.
-pub fn far(b: u32, p: u32, q: u32) -> u32
-    requires { ⌜ Near mostCorners b × Near mostCorners p × Near mostCorners q ⌝ }
-    ensures { λ r. ⌜ r ≡ (b + p) - q ⌝ }
+// Where a step leads from b.
+pub(crate) fn outward(b: u32, step: i32) -> u32
+    requires { ⌜ (b < 2 * centre) × InRange (label b +ℤ step) ⌝ }
+    ensures { λ r. ⌜ Word (label b +ℤ step) r ⌝ }
 {
-    to_word(outward(from_word(b), from_word(p), from_word(q)))
+    to_word(from_word(b) + step)
 }

@@ -29,7 +29,7 @@ wide-requires c κs = search needs
 returns : tie.Need-returns
 returns c =
     let s = c .before .before .before .before .before in
-    λ number least corners u. underway-within (s .pre .0 .0) u (s .pre .0 .1) (λ e. c .if1 .taken (c .before .wide .ensures ∙ e))
+    λ number params u. underway-within (s .pre .0 .0) u (s .pre .0 .1) (λ e. c .if1 .taken (c .before .wide .ensures ∙ e))
 
 walk-from-requires : tie.Need-walk-from-requires
 walk-from-requires c κs =

@@ -84,7 +84,7 @@ returns : tie.Need-returns
 returns c =
     let s = c .before .before .before .before .before .before .before .before .before .before .before .before .before in
     let l = laid-of (c .before .before .before .before .before .before .before .before .before .label .ensures) (c .before .before .before .before .before .walked .given .1) in
-    λ number least corners u. underway-laid (s .pre .0 .0) u (s .pre .0 .1) (s .pre .1 .1) (l .0) (l .1) (c .before .before .take .ensures)
+    λ number params u. underway-laid (s .pre .0 .0) u (s .pre .0 .1) (s .pre .1 .1) (l .0) (l .1) (c .before .before .take .ensures)
 
 same-length-2 : tie.Need-same-length-2
 same-length-2 c =
@@ -95,7 +95,7 @@ returns-2 : tie.Need-returns-2
 returns-2 c =
     let s = c .before .before .before .before .before .before .before .before .before .before .before .before .before in
     let l = clash-of (c .before .before .before .before .before .before .before .before .before .label .ensures) (c .before .before .before .before .before .walked2 .given .1) in
-    λ number least corners u. underway-none (s .pre .0 .0) u (s .pre .0 .1) (s .pre .1 .1) (l .0) (l .1) (c .before .before .clear .ensures)
+    λ number params u. underway-none (s .pre .0 .0) u (s .pre .0 .1) (s .pre .1 .1) (l .0) (l .1) (c .before .before .clear .ensures)
 
 pub walk-from-spec : {M : Type 1} → statement M
 walk-from-spec =

@@ -1,5 +1,5 @@
 -- `prepare`: what each routine leaves, put together.
-use Rattle.fates.proofs.Ready.{rising, group-small, prepared}
+use Rattle.fates.proofs.Ready.{rising, group-small, ready}
 use borrow.Author.Needs.{needs}
 use Rattle.fates.proofs.prepare.prepare.Statement.{statement}
 use Rattle.fates.proofs.prepare.prepare.Tie as tie
@@ -54,7 +54,7 @@ same-length c = search needs
 returns : tie.Need-returns
 returns c =
     let a = c .before .before .before .before .before .before .before .before .before .before .before .before .before .before .before .before .before .before .before .before .before .before .before .before .before .before .pre in
-    prepared _ _ _ (a .0) _ _ (a .1) (c .before .before .before .before .before .before .before .before .before .before .before .before .before .before .before .before .before .before .before .before .before .before .list-groups .ensures) _ _ (c .before .before .before .before .before .before .before .before .before .before .before .before .before .before .before .before .before .before .tell-runs .ensures) (c .before .before .before .before .before .before .before .before .before .before .before .before .before .before .move-groups .ensures) _ _ _
+    ready _ _ _ (a .0) _ _ (a .1) (c .before .before .before .before .before .before .before .before .before .before .before .before .before .before .before .before .before .before .before .before .before .before .list-groups .ensures) _ _ (c .before .before .before .before .before .before .before .before .before .before .before .before .before .before .before .before .before .before .tell-runs .ensures) (c .before .before .before .before .before .before .before .before .before .before .before .before .before .before .move-groups .ensures) _ _ _
     (c .before .before .before .before .before .before .before .before .before .before .count-members .ensures) (c .before .before .before .before .before .before .zero-from .ensures) (c .before .before .zero-from2 .ensures)
 
 pub prepare-spec : {M : Type 1} → statement M
