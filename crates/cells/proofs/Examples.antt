@@ -1,4 +1,4 @@
--- The worked examples are as they say: one list, and one proof by computation. Assumes nothing.
+-- An example says what is computed of it; the worked examples are one list, and one proof by computation. Assumes nothing.
 use mathlib.Core.Path.{_≡_, refl, sym, ap, _∙_, subst}
 use mathlib.Core.Bool.{Bool, true}
 use mathlib.Core.List.{List, map}
@@ -25,16 +25,16 @@ same-made f g e (later {f = y} {es = ys} i) =
     same-made f g h i
 
 -- what is computed of an example, and what it tells
-abbrev Outcome : Type 0
+abbrev pub Outcome : Type 0
 Outcome = Bool × List (List Entry) × List ℕ
 
-abbrev found : Example → Outcome
+abbrev pub found : Example → Outcome
 found x = (groups-test (x .cells) (grouping x .number), computed (x .cells) (grouping x) (grouping x .n), map (λ (t : Told). holes (t .entries)) (x .answer))
 
-abbrev told : Example → Outcome
+abbrev pub told : Example → Outcome
 told x = (true, map (λ (t : Told). t .entries) (x .answer), map (λ (t : Told). t .gaps) (x .answer))
 
-example-says : (x : Example) → found x ≡ told x → Says x
+pub example-says : (x : Example) → found x ≡ told x → Says x
 example-says x e = record {
   grouped = groups-are (x .cells) (grouping x .number) (ap (λ (o : Outcome). o .0) e);
   components = subst (Components quads (x .cells) (grouping x) (grouping x .n)) (ap (λ (o : Outcome). o .1) e) (computed-are (x .cells) (grouping x) (grouping x .n) (omega arith));

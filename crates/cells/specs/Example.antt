@@ -1,7 +1,7 @@
 -- Worked examples of labelling: quads with the numbers of their groups, and the components that they have, each with its holes. `Says` is
 -- what an example says, by the definitions; no test stands in it.
 use mathlib.Core.Path.{_≡_}
-use mathlib.Core.List.{List, [], _∷_, _++_, map}
+use mathlib.Core.List.{List, [], _∷_, map}
 use Prim.Native.Nat.{ℕ, _/_}
 use lib.ListN.{length, getD}
 use Rattle.cells.specs.Cells.{Neighbours, everyone}
@@ -43,36 +43,10 @@ square a b c d = entry 0 0 a ∷ entry 0 1 d ∷ entry 1 0 b ∷ entry 1 1 c ∷
 abbrev pub whole : List Entry → Told
 whole es = record { entries = es; gaps = 0 }
 
--- four quads round corner 0, of which the last does not close
-abbrev pub four-round : List ℕ
-four-round = 0 ∷ 1 ∷ 2 ∷ 3 ∷ 0 ∷ 3 ∷ 4 ∷ 5 ∷ 0 ∷ 5 ∷ 6 ∷ 7 ∷ 0 ∷ 7 ∷ 8 ∷ 9 ∷ []
-
--- corners 1 and 9 claim one place
-abbrev pub eight-of-ten : Told
-eight-of-ten = record { entries = entry 0 0 6 ∷ entry 0 1 5 ∷ entry 0 2 4 ∷ entry 1 0 7 ∷ entry 1 1 0 ∷ entry 1 2 3 ∷ entry 2 0 8 ∷ entry 2 2 2 ∷ []; gaps = 1 }
-
--- document 01's P lines, in its order: two quads in a row; two that run their side alike; three round a corner, which nothing fits; four round
--- it, of which 8 corners are enough and 9 too many to ask, as 5 quads are
-abbrev pub labelled : List Example
-labelled =
-    record {
-      cells = 0 ∷ 1 ∷ 2 ∷ 3 ∷ 1 ∷ 4 ∷ 5 ∷ 2 ∷ [];
-      groups = 0 ∷ 0 ∷ [];
-      least-quads = 1;
-      least-corners = 1;
-      answer = whole (entry 0 0 0 ∷ entry 0 1 3 ∷ entry 1 0 1 ∷ entry 1 1 2 ∷ entry 2 0 4 ∷ entry 2 1 5 ∷ []) ∷ [];
-    }
-    ∷ record { cells = 0 ∷ 1 ∷ 2 ∷ 3 ∷ 1 ∷ 2 ∷ 5 ∷ 4 ∷ []; groups = 0 ∷ 0 ∷ []; least-quads = 1; least-corners = 1; answer = whole (square 0 1 2 3) ∷ [] }
-    ∷ record { cells = 0 ∷ 1 ∷ 2 ∷ 3 ∷ 0 ∷ 3 ∷ 4 ∷ 5 ∷ 0 ∷ 5 ∷ 6 ∷ 1 ∷ []; groups = 0 ∷ 0 ∷ 0 ∷ []; least-quads = 1; least-corners = 1; answer = [] }
-    ∷ record { cells = four-round; groups = 0 ∷ 0 ∷ 0 ∷ 0 ∷ []; least-quads = 1; least-corners = 1; answer = eight-of-ten ∷ [] }
-    ∷ record { cells = four-round; groups = 0 ∷ 0 ∷ 0 ∷ 0 ∷ []; least-quads = 1; least-corners = 9; answer = [] }
-    ∷ record { cells = four-round; groups = 0 ∷ 0 ∷ 0 ∷ 0 ∷ []; least-quads = 1; least-corners = 8; answer = eight-of-ten ∷ [] }
-    ∷ record { cells = four-round; groups = 0 ∷ 0 ∷ 0 ∷ 0 ∷ []; least-quads = 5; least-corners = 1; answer = [] } ∷ []
-
 -- the shift is over listed corners, not reached ones; only reached quads must fit; two groups share a corner; and a component has no
 -- entries, since each of the eight places is claimed twice
-abbrev pub further : List Example
-further =
+abbrev pub examples : List Example
+examples =
     record { cells = 0 ∷ 1 ∷ 2 ∷ 3 ∷ 0 ∷ 3 ∷ 4 ∷ 5 ∷ 0 ∷ 3 ∷ 6 ∷ 7 ∷ []; groups = 0 ∷ 0 ∷ 0 ∷ []; least-quads = 1; least-corners = 1; answer = whole (square 0 1 2 3) ∷ [] }
     ∷ record { cells = 0 ∷ 1 ∷ 2 ∷ 3 ∷ 1 ∷ 2 ∷ 5 ∷ 4 ∷ 5 ∷ 2 ∷ 6 ∷ 7 ∷ 4 ∷ 5 ∷ 7 ∷ 8 ∷ []; groups = 0 ∷ 0 ∷ 0 ∷ 0 ∷ []; least-quads = 1; least-corners = 1; answer = whole (square 0 1 2 3) ∷ [] }
     ∷ record { cells = 0 ∷ 1 ∷ 2 ∷ 3 ∷ 0 ∷ 4 ∷ 5 ∷ 6 ∷ []; groups = 0 ∷ 1 ∷ []; least-quads = 1; least-corners = 1; answer = whole (square 0 1 2 3) ∷ whole (square 0 4 5 6) ∷ [] }
@@ -84,6 +58,3 @@ further =
       answer = whole [] ∷ [];
     }
     ∷ []
-
-abbrev pub examples : List Example
-examples = labelled ++ further

@@ -1,7 +1,8 @@
 -- The list of document 01's P examples holds, by computation; its frame stage by stage, each by what its own crate computes of it. Assumes
 -- nothing.
 use mathlib.Core.Path.{_≡_, refl, sym, ap, _∙_, subst}
-use mathlib.Core.List.{List, [], _∷_, _++_}
+use mathlib.Core.List.{List, [], _∷_, map}
+use mathlib.Core.Option.{some}
 use Prim.Native.Nat.{ℕ}
 use native.Mathlib.Omega.{arith}
 use lib.Dec.{lit<, lit≤}
@@ -17,13 +18,15 @@ use Rattle.classify.proofs.Worked as classes
 use Rattle.quads.specs.Merge.{mergedOf}
 use Rattle.quads.specs.Call.{wordsOf}
 use Rattle.quads.proofs.Worked as quads
-use Rattle.cells.specs.Listed.{In}
-use Rattle.cells.specs.Listed.In.{first, later}
+use Rattle.cells.specs.Kind.{Pair, Fits}
+use Rattle.cells.specs.Quads as cells
+use Rattle.cells.specs.Twin.{Reading, known-from, reading, label}
 use Rattle.cells.specs.Holes.{holes, places, total, width, height, held}
-use Rattle.cells.specs.Example.{further}
+use Rattle.cells.proofs.Twin.{Solves, solve-is}
+use Rattle.cells.proofs.Twin.Solves.{solved}
 use Rattle.cells.proofs.Check.{groups-are}
 use Rattle.cells.proofs.Computed.{computed-are}
-use Rattle.cells.proofs.Examples.{examples-say}
+use Rattle.cells.proofs.Examples.{example-says}
 use Rattle.filter.specs.Input as filters
 use Rattle.filter.specs.Median.{less, upTo}
 use Rattle.filter.specs.Topology.{incidence, illegal}
@@ -32,7 +35,7 @@ use Rattle.filter.specs.Single.{square}
 use Rattle.filter.proofs.Single.{marked}
 use Rattle.walk.specs.Input as labels
 use Rattle.frame.specs.Stages.{Answer, classing, merging, filtering}
-use Rattle.frame.specs.Examples.{program-frame, printed, Examples}
+use Rattle.frame.specs.Examples.{four-round, program-frame, printed, Examples}
 
 -- ---- the frame
 
@@ -74,9 +77,14 @@ of-the-frame =
 
 -- ---- the list
 
-in-front : {A : Type 0} {x : A} {xs : List A} (ys : List A) → In x xs → In x (xs ++ ys)
-in-front ys (first p) = first p
-in-front ys (later i) = later (in-front ys i)
+readings : List Reading
+readings = map (reading four-round) (known-from four-round 0)
+
+fits-of : {rs : List Reading} → Solves four-round 0 (some rs) → Fits cells.quads four-round 0 (label rs)
+fits-of (solved s) = s .fits
+
+claimed : (L : ℕ → Pair) × (Fits cells.quads four-round 0 L × (L 1 ≡ L 9))
+claimed = (label readings, (fits-of (solve-is four-round 0 (omega arith)), refl))
 
 pub examples : Examples
 unfolding neg ofBits round add sub mul div lt eq le within seriesOf partOf ratioOf baseOf octantOf acrossOf belowOf angleRule reached angleOf sigOf expOf units unitsOf greatest reaches rootPattern rootOf one equal less upTo incidence illegal holes places total width height held
@@ -92,7 +100,14 @@ examples =
       in-four = (refl, refl);
       in-five = (refl, refl);
       median-of-1-1-2-2 = record { at = 2; at-lt = lit< tt; is = refl; before = lit≤ tt; after = lit< tt };
-      labels = λ x i. examples-say x (in-front further i);
+      corners-4-and-5 = example-says _ refl;
+      side-run-alike = example-says _ refl;
+      no-component = example-says _ refl;
+      corners-1-and-9 = claimed;
+      eight-entries = example-says _ refl;
+      least-corners-9 = example-says _ refl;
+      least-corners-8 = example-says _ refl;
+      least-quads-5 = example-says _ refl;
       frame = of-the-frame;
       frame-holes = refl;
     }

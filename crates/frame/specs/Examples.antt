@@ -1,20 +1,22 @@
--- Document 01's examples marked P, in its order: one list, and one proof of it in proofs/Examples; the lines on labelling are cells' list
--- `labelled`, each said by the definitions. The frame of its program stands last, through all stages.
+-- Document 01's examples marked P, in its order: one list, and one proof of it in proofs/Examples; each line on labelling is said by the
+-- definitions (`Says`, of cells). The frame of its program stands last, through all stages.
 use mathlib.Core.Path.{_≡_}
 use mathlib.Core.Bool.{true, false}
 use mathlib.Core.List.{List, [], _∷_}
-use Prim.Native.Nat.{ℕ}
+use Prim.Native.Nat.{ℕ, _/_}
 use lib.Ieee as Ieee
 use lib.Ieee.{Float}
-use lib.ListN.{replicate}
+use lib.ListN.{length, replicate}
 use Rattle.measure.specs.declared.Measured.the-variants.{Known}
 use Rattle.measure.specs.Float.{bits, fraction}
 use Rattle.measure.specs.Angle.{angleOf}
 use Rattle.measure.specs.RootComputed.{rootOf}
 use Rattle.mesh.specs.HalfEdge.{noTwin}
-use Rattle.cells.specs.Listed.{In, Entry}
+use Rattle.cells.specs.Kind.{Pair, Fits}
+use Rattle.cells.specs.Quads.{quads}
+use Rattle.cells.specs.Listed.{Entry}
 use Rattle.cells.specs.Holes.{holes}
-use Rattle.cells.specs.Example.{Example, Says, labelled, entry}
+use Rattle.cells.specs.Example.{Told, Example, Says, entry, square, whole}
 use Rattle.filter.specs.Median.{Median}
 use Rattle.filter.specs.Topology.{incidence, illegal}
 use Rattle.filter.specs.Worked.{five, pairs}
@@ -23,6 +25,17 @@ use Rattle.frame.specs.Stages.{Input, Answer}
 -- four quads round corner 0; `five` are five, and `pairs` the sides 1, 1, 2, 2
 abbrev pub four : List ℕ
 four = 0 ∷ 1 ∷ 2 ∷ 3 ∷ 0 ∷ 3 ∷ 4 ∷ 5 ∷ 0 ∷ 5 ∷ 6 ∷ 7 ∷ 0 ∷ 7 ∷ 8 ∷ 1 ∷ []
+
+-- quads that are one group, the least quads and corners, and the components
+abbrev pub one-group : List ℕ → ℕ → ℕ → List Told → Example
+one-group quads least-quads least-corners answer = record { cells = quads; groups = replicate (length quads / 4) 0; least-quads = least-quads; least-corners = least-corners; answer = answer }
+
+abbrev pub four-round : List ℕ
+four-round = 0 ∷ 1 ∷ 2 ∷ 3 ∷ 0 ∷ 3 ∷ 4 ∷ 5 ∷ 0 ∷ 5 ∷ 6 ∷ 7 ∷ 0 ∷ 7 ∷ 8 ∷ 9 ∷ []
+
+-- neither corner 1 nor corner 9 is listed; corner 6 is at (0,0), corner 0 at (1,1), and (2,1) is the hole
+abbrev pub eight-of-ten : Told
+eight-of-ten = record { entries = entry 0 0 6 ∷ entry 0 1 5 ∷ entry 0 2 4 ∷ entry 1 0 7 ∷ entry 1 1 0 ∷ entry 1 2 3 ∷ entry 2 0 8 ∷ entry 2 2 2 ∷ []; gaps = 1 }
 
 -- the frame of the program's example but for its tolerance and its twins: four corners of a square, axes along its sides and no spreads, two
 -- triangles
@@ -66,11 +79,18 @@ pub record Examples : Type 0 where
   -- sides 1, 1, 2, 2 have median 2
   pub median-of-1-1-2-2 : Median pairs (fraction 2 1)
   -- quads 0 1 2 3 and 1 4 5 2: corners 4 and 5 get (2,0) and (2,1)
+  pub corners-4-and-5 : Says (one-group (0 ∷ 1 ∷ 2 ∷ 3 ∷ 1 ∷ 4 ∷ 5 ∷ 2 ∷ []) 1 1 (whole (entry 0 0 0 ∷ entry 0 1 3 ∷ entry 1 0 1 ∷ entry 1 1 2 ∷ entry 2 0 4 ∷ entry 2 1 5 ∷ []) ∷ []))
   -- quads 0 1 2 3 and 1 2 5 4 run side 1-2 alike: one group, four corners listed
+  pub side-run-alike : Says (one-group (0 ∷ 1 ∷ 2 ∷ 3 ∷ 1 ∷ 2 ∷ 5 ∷ 4 ∷ []) 1 1 (whole (square 0 1 2 3) ∷ []))
   -- 0 1 2 3, 0 3 4 5, 0 5 6 1: no component
+  pub no-component : Says (one-group (0 ∷ 1 ∷ 2 ∷ 3 ∷ 0 ∷ 3 ∷ 4 ∷ 5 ∷ 0 ∷ 5 ∷ 6 ∷ 1 ∷ []) 1 1 [])
   -- 0 1 2 3, 0 3 4 5, 0 5 6 7, 0 7 8 9: corners 1 and 9 claim one place, neither listed; 8 entries, corner 6 at (0,0), corner 0 at (1,1), one
   -- hole. Least corners 9 drops it, 8 keeps it; least quads 5 drops it
-  pub labels : (x : Example) → In x labelled → Says x
+  pub corners-1-and-9 : (L : ℕ → Pair) × (Fits quads four-round 0 L × (L 1 ≡ L 9))
+  pub eight-entries : Says (one-group four-round 1 1 (eight-of-ten ∷ []))
+  pub least-corners-9 : Says (one-group four-round 1 9 [])
+  pub least-corners-8 : Says (one-group four-round 1 8 (eight-of-ten ∷ []))
+  pub least-quads-5 : Says (one-group four-round 5 1 [])
   -- the program prints: components 1; component 0 4 0; 0 0 0; 0 1 3; 1 0 1; 1 1 2
   pub frame : Answer program-frame (printed ∷ [])
   pub frame-holes : holes printed ≡ 0
