@@ -77,7 +77,7 @@ of-the-frame =
 
 -- ---- the list
 
-readings : List Reading
+abbrev readings : List Reading
 readings = map (reading four-round) (known-from four-round 0)
 
 fits-of : {rs : List Reading} → Solves four-round 0 (some rs) → Fits cells.quads four-round 0 (label rs)

@@ -16,7 +16,7 @@ use Rattle.digits.proofs.Places.{places, fewest, word-places, decimal-places}
 use Rattle.gridtext.specs.Lines.{spaced, IsWord}
 use Rattle.gridtext.specs.Answer.{numbersLine, badText, refusedText, entryLine, entryLines, componentsText}
 use Rattle.gridtext.specs.Printed.{Room, lastFields}
-use Rattle.gridtext.specs.Held.{Holds, Printable, Readable, mostBytes}
+use Rattle.gridtext.specs.Held.{badBytes, refusedBytes, Holds, Printable, Readable, mostBytes}
 use Rattle.gridtext.proofs.Joining.{joined, entryPiece, entries-joined, componentPiece}
 use Rattle.gridtext.proofs.Reading.{readable, componentWord, componentFields, component-parts, countWord, answer-parts}
 
@@ -44,11 +44,11 @@ two-most a b h i = field-most a 12 (decimalOf b ∷ []) h (one-most b i)
 three-most : (a b c : ℕ) → IsWord a → IsWord b → IsWord c → length (lastFields (decimalOf a ∷ decimalOf b ∷ decimalOf c ∷ [])) ≤ 34
 three-most a b c h i j = field-most a 23 (decimalOf b ∷ decimalOf c ∷ []) h (two-most b c i j)
 
-pub bad-room : (out : List ℕ) (line : ℕ) → IsWord line → 15 ≤ length out → Room out 0 (badText line)
+pub bad-room : (out : List ℕ) (line : ℕ) → IsWord line → badBytes ≤ length out → Room out 0 (badText line)
 unfolding badText numbersLine
 bad-room out line h r = omega (arith, one-most line h, length-append (98 ∷ 97 ∷ 100 ∷ []) (lastFields (decimalOf line ∷ [])))
 
-pub refused-room : (out : List ℕ) (why : Refusal) → IsWord (numberOf why) → IsWord (placeOf why) → 30 ≤ length out → Room out 0 (refusedText why)
+pub refused-room : (out : List ℕ) (why : Refusal) → IsWord (numberOf why) → IsWord (placeOf why) → refusedBytes ≤ length out → Room out 0 (refusedText why)
 unfolding refusedText numbersLine
 refused-room out why h i r =
     omega (arith, two-most (numberOf why) (placeOf why) h i, length-append (114 ∷ 101 ∷ 102 ∷ 117 ∷ 115 ∷ 101 ∷ 100 ∷ []) (lastFields (decimalOf (numberOf why) ∷ decimalOf (placeOf why) ∷ [])))

@@ -6,6 +6,7 @@ use mathlib.Core.List.{List, _∷_, _++_, tail}
 use Prim.Native.Nat.{ℕ, suc, _+_, _-_, _≤_}
 use native.Mathlib.Omega.{arith}
 use lib.ListN.{length, getD, drop, length-append, length-drop}
+use Rattle.mesh.specs.HalfEdge.{noTwin}
 use Rattle.digits.specs.declared.End.{End}
 use Rattle.digits.specs.declared.Taken.{Taken}
 use Rattle.digits.specs.Digits.{hexOf, decimalOf}
@@ -101,7 +102,7 @@ module _ {text : List ℕ} {at e : ℕ} where
   unfolding wordsOf spreadWords
   no-spread p = FieldAt.words (minus-field Kind.Spread Allowed.spread p) refl
 
-  pub no-twin : PairAt text at 45 e true → FieldAt Kind.Twin text at e (Found.Words (Few.One 4294967295) (at + 2))
+  pub no-twin : PairAt text at 45 e true → FieldAt Kind.Twin text at e (Found.Words (Few.One noTwin) (at + 2))
   unfolding wordsOf twinWord
   no-twin p = FieldAt.words (minus-field Kind.Twin Allowed.twin p) refl
 

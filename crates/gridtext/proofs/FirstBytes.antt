@@ -2,14 +2,14 @@
 -- bad line stands whole among them. Assumes nothing.
 use mathlib.Core.Path.{_≡_, refl, sym, ap, _∙_}
 use mathlib.Core.List.{List, [], _∷_, _++_, append-assoc, map}
-use Prim.Native.Nat.{ℕ, suc, _+_, _*_, _≤_}
+use Prim.Native.Nat.{ℕ, _+_, _*_, _≤_}
 use native.Mathlib.Omega.{arith}
 use lib.ListN.{length, take, drop, length-append, length-map, take-append-drop}
 use lib.Seq.{length-take-le, take-append-le, take-at}
 use Rattle.cells.specs.Listed.{In}
 use Rattle.digits.specs.Digits.{hexOf, decimalOf}
 use Rattle.gridtext.specs.Lines.{Field, Line, fieldOf, spaced, lineOf, printed, IsWord, WordField, LineWords}
-use Rattle.gridtext.specs.Text.{Frame, linesOf, Within, Fitting, Reads, Bad}
+use Rattle.gridtext.specs.Text.{Frame, linesOf, Fitting, Reads, Bad}
 use Rattle.gridtext.specs.Gridlabel.{Answers, mostText}
 use Rattle.gridtext.proofs.Bounds.{digits-most}
 use Rattle.gridtext.proofs.OneLine.{Words}

@@ -76,13 +76,13 @@ module _ (f : Frame) (within : Within f) where
     abbrev keeps : List Quad
     keeps = keptOf (filtering (inputOf f)) (a .marks)
 
-    few-quads : length keeps ≤ 128
+    few-quads : length keeps ≤ mostComponents
     few-quads = omega (arith, kept-less (inputOf f) (a .marks), made-few (inputOf f) through, triangles-length, within .triangles)
 
     pub small-answer : (length out ≤ mostComponents) × (length (allEntries out) ≤ mostEntries)
     small-answer =
         let r = few (wordsOf keeps) (grouping (labelling (inputOf f) keeps) (a .labelled .number)) refl (a .labelled .groups) out (a .labelled .components) in
-        let n : length (wordsOf keeps) / 4 ≤ 128 = omega (arith, length-words keeps, few-quads) in
+        let n : length (wordsOf keeps) / 4 ≤ mostComponents = omega (arith, length-words keeps, few-quads) in
         (omega (arith, r .0), omega (arith, r .1))
 
     rooms-open : (components entries : ℕ) → 3 * mostComponents ≤ components → 3 * mostEntries ≤ entries → (roomRow components (length out) then entriesRow entries (length (allEntries out))) ≡ Open

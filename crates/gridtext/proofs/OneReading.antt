@@ -1,21 +1,17 @@
--- A text has one frame or one first bad line, and not both: lines that stand in one place are the same as far as they go, and a line that
--- fits would stand where the text is stuck. Assumes nothing.
+-- A text has one frame at most (`one-frame`), one first bad line at most (`one-bad-line`), and never both (`never-both`): lines that stand in
+-- one place are the same as far as they go, and a line that fits would stand where the text is stuck. Assumes nothing.
 use mathlib.Core.Path.{_≡_, refl, sym, ap, _∙_, subst}
 use mathlib.Core.List.{List, [], _∷_, _++_, append-assoc, append-nil, map, tail}
 use Prim.Native.Nat.{ℕ, suc, _+_, _≤_}
 use native.Mathlib.Omega.{arith}
 use lib.ListN.{length, length-append}
 use Rattle.cells.specs.Listed.{In}
-use Rattle.cells.proofs.Tests.{not-in}
+use Rattle.cells.proofs.Tests.{in-front, not-in}
 use Rattle.gridtext.specs.Lines.{CornerLine, TriangleLine, Line, lineOf, printed}
 use Rattle.gridtext.specs.Text.{Frame, linesOf, Within, Fitting, Reads, Bad}
 use Rattle.gridtext.proofs.OneLine.{Words, Beside, beside}
 
 -- ---- the front of a frame's lines is a frame's
-
-in-front : {A : Type 0} {x : A} {xs : List A} (ys : List A) → In x xs → In x (xs ++ ys)
-in-front ys (In.first q) = In.first q
-in-front ys (In.later i) = In.later (in-front ys i)
 
 record Front (cs : List CornerLine) (ts : List TriangleLine) (ls : List Line) : Type 0 where
   corners : List CornerLine
@@ -120,9 +116,9 @@ one-bad-line {text} {j} {k} a b = a .number ∙ ap (λ (ls : List Line). suc (le
     go (Beside.shorter more e q) = sym (e ∙ rw (stuck-there a (b .before) more (b .rest) (b .fits) e q) (append-nil (a .before)))
     go (Beside.longer more e q) = e ∙ rw (stuck-there b (a .before) more (a .rest) (a .fits) e q) (append-nil (b .before))
 
-pub frame-or-bad : {text : List ℕ} {k : ℕ} (f : Frame) → Reads text f → Bad text k → ⊥
+pub never-both : {text : List ℕ} {k : ℕ} (f : Frame) → Reads text f → Bad text k → ⊥
 unfolding printed
-frame-or-bad {text} {k} f a b = go (beside (b .before) (linesOf f) (b .rest) [] (fitting-words (b .fits)) (a .within .words) (sym (b .is) ∙ a .is ∙ rw append-nil))
+never-both {text} {k} f a b = go (beside (b .before) (linesOf f) (b .rest) [] (fitting-words (b .fits)) (a .within .words) (sym (b .is) ∙ a .is ∙ rw append-nil))
   where
     never : b .rest ≡ [] → linesOf f ≡ b .before → ⊥
     never r e = let n = b .ends r in let z : _≡_ {A = ℕ} 0 1 = cc in omega arith

@@ -7,12 +7,13 @@ use Prim.Native.Nat.{ℕ, _+_, _-_, _≤_, _<_}
 use native.Mathlib.Omega.{arith}
 use lib.ListN.{length, take, drop, length-append, length-drop, length-map, drop-of-length-le}
 use Rattle.cells.specs.Listed.{In}
+use Rattle.frame.specs.declared.Params.{Params}
 use Rattle.gridtext.specs.declared.FrameRead.{FrameRead}
-use Rattle.gridtext.specs.declared.ParamWords.{ParamWords}
 use Rattle.gridtext.specs.declared.inner.line.Next.{Next}
 use Rattle.gridtext.specs.declared.inner.row.Sort.{Sort}
-use Rattle.gridtext.specs.Lines.{ParamsLine, Line, lineOf, printed, LineWords}
-use Rattle.gridtext.specs.Text.{Frame, linesOf, Within, Fitting, Reads, Bad}
+use Rattle.gridtext.specs.Lines.{Line, lineOf, printed, LineWords}
+use Rattle.gridtext.specs.Text.{mostCornerLines, mostTriangleLines, Frame, linesOf, Within, Fitting, Reads, Bad}
+use Rattle.gridtext.specs.Lists.{paramsOf}
 use Rattle.gridtext.specs.Read.{paramWords, frameOf, cornerWords, triangleWords, lineWords, allWords, Laid, sortOf, Of, NoLine, LineStands, LineAt, LinesAt}
 use Rattle.gridtext.proofs.Runs.{in-append, printed-append}
 use Rattle.gridtext.proofs.Parsing.{Behind, fits-behind, lines-of, a-params, a-corner, a-triangle}
@@ -55,8 +56,8 @@ pub record Three (text : List ℕ) (f : Frame) (c₀ c t₀ t : List ℕ) (m n e
   pub next : ℕ
   pub of : Of Sort.Params (Line.params (f .params))
   pub first : LineStands text 0 (Line.params (f .params)) at
-  pub cs : LinesAt Sort.Corner text at c₀ c m next
-  pub ts : LinesAt Sort.Triangle text next t₀ t n end
+  pub cs : LinesAt Sort.Corner mostCornerLines text at c₀ c m next
+  pub ts : LinesAt Sort.Triangle mostTriangleLines text next t₀ t n end
   pub corners : cs .lines ≡ map Line.corner (f .corners)
   pub triangles : ts .lines ≡ map Line.triangle (f .triangles)
 
@@ -133,10 +134,10 @@ line-within (LineAt.found of s t) = s .within
 pub record Found (text out c₀ c t₀ t : List ℕ) (m n end : ℕ) : Type 0 where
   pub frame : Frame
   pub three : Three text frame c₀ c t₀ t m n end
-  pub params : take 7 out ≡ paramWords (frame .params)
+  pub params : take (length (paramWords (frame .params))) out ≡ paramWords (frame .params)
 
-pub found-three : {text out c₀ c t₀ t : List ℕ} {at m n next end : ℕ} → LineAt Sort.Params text 0 out (Next.At at) → LinesAt Sort.Corner text at c₀ c m next → LinesAt Sort.Triangle text next t₀ t n end → Found text out c₀ c t₀ t m n end
-unfolding lineWords paramWords
+pub found-three : {text out c₀ c t₀ t : List ℕ} {at m n next end : ℕ} → LineAt Sort.Params text 0 out (Next.At at) → LinesAt Sort.Corner mostCornerLines text at c₀ c m next → LinesAt Sort.Triangle mostTriangleLines text next t₀ t n end → Found text out c₀ c t₀ t m n end
+unfolding lineWords
 found-three {text} {out} {at = at} {next = next} (LineAt.found {l} of s words) cs ts =
     let p = a-params l (of .is) in
     let x = lines-of Line.corner Sort.Corner a-corner (cs .lines) (cs .each) in
@@ -156,10 +157,6 @@ found-three {text} {out} {at = at} {next = next} (LineAt.found {l} of s words) c
       params = subst (λ (k : Line). take (length (lineWords k)) out ≡ lineWords k) (p .1) words;
     }
 
-pub params-are : (r : ParamWords) (p : ParamsLine) → r .tolerance ∷ r .ratio ∷ r .least ∷ r .greatest ∷ r .limit ∷ r .quads ∷ r .corners ∷ [] ≡ paramWords p → (r .tolerance ≡ p .tolerance) × (r .ratio ≡ p .ratio) × (r .least ≡ p .least) × (r .greatest ≡ p .greatest) × (r .limit ≡ p .limit) × (r .quads ≡ p .quads) × (r .corners ≡ p .corners)
-unfolding paramWords
-params-are r p e = (cc, cc, cc, cc, cc, cc, cc)
-
-pub frame-is : (r : ParamWords) (m n : ℕ) (f : Frame) → m ≡ length (f .corners) → n ≡ length (f .triangles) → r .tolerance ∷ r .ratio ∷ r .least ∷ r .greatest ∷ r .limit ∷ r .quads ∷ r .corners ∷ [] ≡ paramWords (f .params) → _≡_ {A = FrameRead} (record { params = r; corners = m; triangles = n }) (frameOf f)
+pub frame-is : (r : Params) (m n : ℕ) (f : Frame) → m ≡ length (f .corners) → n ≡ length (f .triangles) → r ≡ paramsOf (f .params) → _≡_ {A = FrameRead} (record { params = r; corners = m; triangles = n }) (frameOf f)
 unfolding frameOf
-frame-is r m n f a b e = let q = params-are r (f .params) e in rw (← q .0, ← q .1, ← q .2, ← q .3, ← q .4, ← q .5, ← q .6, ← a, ← b)
+frame-is r m n f a b e = rw (← a, ← b, ← e)

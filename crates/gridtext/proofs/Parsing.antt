@@ -10,7 +10,7 @@ use Rattle.cells.specs.Listed.{In}
 use Rattle.digits.proofs.Numerals.{split-equal}
 use Rattle.gridtext.specs.declared.inner.row.Sort.{Sort}
 use Rattle.gridtext.specs.Lines.{ParamsLine, CornerLine, TriangleLine, Line, LineWords}
-use Rattle.gridtext.specs.Text.{Frame, linesOf, Within, Fitting}
+use Rattle.gridtext.specs.Text.{mostCornerLines, mostTriangleLines, Frame, linesOf, Within, Fitting}
 use Rattle.gridtext.specs.Read.{sortOf, Of}
 use Rattle.gridtext.proofs.Runs.{in-last}
 
@@ -80,8 +80,8 @@ last-corner before after c (d ∷ cs) l e = last-corner (before ++ (Line.corner 
 
 -- a C line where no T line stands, or a T line, within the limits
 pub data Behind (f : Frame) : Line → Type 0 where
-  corner : {c : CornerLine} → LineWords (Line.corner c) → length (f .triangles) ≡ 0 → length (f .corners) < 128 → Behind f (Line.corner c)
-  triangle : {t : TriangleLine} → LineWords (Line.triangle t) → length (f .triangles) < 256 → Behind f (Line.triangle t)
+  corner : {c : CornerLine} → LineWords (Line.corner c) → length (f .triangles) ≡ 0 → length (f .corners) < mostCornerLines → Behind f (Line.corner c)
+  triangle : {t : TriangleLine} → LineWords (Line.triangle t) → length (f .triangles) < mostTriangleLines → Behind f (Line.triangle t)
 
 module _ (f g : Frame) (within : Within g) (l : Line) (e : map Line.corner (g .corners) ++ map Line.triangle (g .triangles) ≡ (map Line.corner (f .corners) ++ map Line.triangle (f .triangles)) ++ (l ∷ [])) where
   more-corners : length (g .corners) ≡ length (f .corners) + cornerly l

@@ -9,7 +9,7 @@ use Rattle.digits.specs.declared.End.{End}
 use Rattle.gridtext.specs.declared.inner.row.Kind.{Kind}
 use Rattle.gridtext.specs.declared.inner.row.Sort.{Sort}
 use Rattle.gridtext.specs.Lines.{Field, Line, fieldOf, spaced, lineOf, WordField, LineWords}
-use Rattle.gridtext.specs.Rows.{letterOf, kindsOf, endAfter, formOf, Allowed, spreadWords, wordOf, wordsOf}
+use Rattle.gridtext.specs.Rows.{letterOf, kindsOf, mostWords, endAfter, formOf, Allowed, spreadWords, wordOf, wordsOf}
 use Rattle.gridtext.specs.Read.{paramWords, cornerWords, triangleWords, lineWords, sortOf, Of}
 use Rattle.gridtext.proofs.Fields.{one-field}
 
@@ -50,7 +50,7 @@ words-places Kind.Spread Field.minus = refl
 words-places Kind.Spread (Field.word v) = refl
 words-places Kind.Twin f = refl
 
-pub total-few : (sort : Sort) → total (kindsOf sort) ≤ 8
+pub total-few : (sort : Sort) → total (kindsOf sort) ≤ mostWords
 unfolding total placesOf
 total-few Sort.Params = omega arith
 total-few Sort.Corner = omega arith

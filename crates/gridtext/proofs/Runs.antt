@@ -13,7 +13,7 @@ use Rattle.cells.proofs.Tests.{not-in}
 use Rattle.gridtext.specs.declared.inner.line.Next.{Next}
 use Rattle.gridtext.specs.declared.inner.row.Sort.{Sort}
 use Rattle.gridtext.specs.Lines.{Field, Line, lineOf, printed}
-use Rattle.gridtext.specs.Rows.{sizeOf, mostOf, spreadWords}
+use Rattle.gridtext.specs.Rows.{sizeOf, mostWords, spreadWords}
 use Rattle.gridtext.specs.Read.{paramWords, cornerWords, triangleWords, lineWords, allWords, Laid, sortOf, Of, NoLine, LineAt, LinesAt}
 
 -- ---- lists of lines, one longer
@@ -50,7 +50,7 @@ unfolding spreadWords
 spread-two Field.minus = refl
 spread-two (Field.word v) = refl
 
-line-size : (l : Line) → length (lineWords l) ≡ sizeOf (sortOf l)
+pub line-size : (l : Line) → length (lineWords l) ≡ sizeOf (sortOf l)
 unfolding lineWords paramWords cornerWords triangleWords sortOf
 line-size (Line.params p) = refl
 line-size (Line.corner c) = simp (length-append, spread-two)
@@ -63,7 +63,7 @@ once-more count most size h =
     let e : (count + 1) * size ≡ count * size + size = add-mul count 1 size ∙ ap (λ (x : ℕ). count * size + x) (one-mul size) in
     omega (arith, m, e)
 
-pub size-few : (sort : Sort) → sizeOf sort ≤ 8
+pub size-few : (sort : Sort) → sizeOf sort ≤ mostWords
 size-few Sort.Params = omega arith
 size-few Sort.Corner = omega arith
 size-few Sort.Triangle = omega arith
@@ -73,20 +73,20 @@ line-missing (LineAt.nothing n) = n
 
 -- ---- the run so far
 
-pub record SoFar (sort : Sort) (text : List ℕ) (at : ℕ) (before after : List ℕ) (count next : ℕ) : Type 0 where
+pub record SoFar (sort : Sort) (most : ℕ) (text : List ℕ) (at : ℕ) (before after : List ℕ) (count next : ℕ) : Type 0 where
   pub lines : List Line
   pub each : (l : Line) → In l lines → Of sort l
   pub number : count ≡ length lines
-  pub few : count ≤ mostOf sort
+  pub few : count ≤ most
   pub is : drop at text ≡ printed lines ++ drop next text
   pub within : next ≤ length text
   pub laid : Laid (allWords lineWords lines) before after
   pub size : length (allWords lineWords lines) ≡ count * sizeOf sort
   pub same : length after ≡ length before
 
-pub far-none : (sort : Sort) (text : List ℕ) (at : ℕ) (before : List ℕ) → at ≤ length text → SoFar sort text at before before 0 at
+pub far-none : (sort : Sort) (most : ℕ) (text : List ℕ) (at : ℕ) (before : List ℕ) → at ≤ length text → SoFar sort most text at before before 0 at
 unfolding printed allWords
-far-none sort text at before h = record {
+far-none sort most text at before h = record {
   lines = [];
   each = λ l i. not-in i;
   number = refl;
@@ -98,8 +98,8 @@ far-none sort text at before h = record {
   same = refl;
 }
 
-module _ {sort : Sort} {text : List ℕ} {at : ℕ} {before after : List ℕ} {count next : ℕ} (far : SoFar sort text at before after count next) where
-  pub far-ends : (count < mostOf sort → NoLine sort text next) → LinesAt sort text at before after count next
+module _ {sort : Sort} {most : ℕ} {text : List ℕ} {at : ℕ} {before after : List ℕ} {count next : ℕ} (far : SoFar sort most text at before after count next) where
+  pub far-ends : (count < most → NoLine sort text next) → LinesAt sort most text at before after count next
   far-ends ends = record {
     lines = far .lines;
     each = far .each;
@@ -112,8 +112,8 @@ module _ {sort : Sort} {text : List ℕ} {at : ℕ} {before after : List ℕ} {c
     ends = ends;
   }
 
-  pub room-left : count < mostOf sort → mostOf sort * sizeOf sort ≤ length before → count * sizeOf sort + sizeOf sort ≤ length after
-  room-left l h = omega (arith, once-more count (mostOf sort) (sizeOf sort) l, far .same)
+  pub room-left : count < most → most * sizeOf sort ≤ length before → count * sizeOf sort + sizeOf sort ≤ length after
+  room-left l h = omega (arith, once-more count most (sizeOf sort) l, far .same)
 
   abbrev words : List ℕ
   words = allWords lineWords (far .lines)
@@ -126,7 +126,7 @@ module _ {sort : Sort} {text : List ℕ} {at : ℕ} {before after : List ℕ} {c
       let h : drop (count * sizeOf sort + sizeOf sort) after ≡ drop (length words + length (lineWords l)) before = ap (drop (count * sizeOf sort + sizeOf sort)) (far .laid) ∙ rw (← far .size, ← n, drop-append-add, drop-drop) in
       e ∙ rw (f, g, h, words-more (far .lines) l, length-append words (lineWords l))
 
-  pub far-more : {after' : ℕ} (out new : List ℕ) → count < mostOf sort → LineAt sort text next out (Next.At after') → sizeOf sort ≤ length out → count * sizeOf sort + sizeOf sort ≤ length after → new ≡ paste after (count * sizeOf sort) out (sizeOf sort) → SoFar sort text at before new (count + 1) after'
+  pub far-more : {after' : ℕ} (out new : List ℕ) → count < most → LineAt sort text next out (Next.At after') → sizeOf sort ≤ length out → count * sizeOf sort + sizeOf sort ≤ length after → new ≡ paste after (count * sizeOf sort) out (sizeOf sort) → SoFar sort most text at before new (count + 1) after'
   far-more {after'} out new l (LineAt.found {l = line} of s t) h k e =
       let n : length (lineWords line) ≡ sizeOf sort = line-size line ∙ ap sizeOf (of .is) in
       record {

@@ -14,7 +14,7 @@ use Rattle.gridtext.specs.declared.inner.row.Found.{Found}
 use Rattle.gridtext.specs.declared.inner.row.Kind.{Kind}
 use Rattle.gridtext.specs.declared.inner.row.Sort.{Sort}
 use Rattle.gridtext.specs.Lines.{Field, Line, lineOf}
-use Rattle.gridtext.specs.Rows.{letterOf, kindsOf, endAfter, wordsOf, listOf, PairAt, FieldAt}
+use Rattle.gridtext.specs.Rows.{letterOf, kindsOf, mostWords, endAfter, wordsOf, listOf, PairAt, FieldAt}
 use Rattle.gridtext.specs.Read.{lineWords, Of, NoLine, LineAt}
 use Rattle.gridtext.proofs.Rows.{Fits, rowOf, rowWords, placesOf, total, words-places, total-few, Got, RowAt, row-left, row-first, whole, fieldsOf, row-fits, line-of, line-row, line-words}
 
@@ -25,7 +25,7 @@ pub record Passed (text : List ℕ) (sort : Sort) (at : ℕ) (out : List ℕ) (n
   pub got : Got text (kindsOf sort) (at + 2) (drop i (kindsOf sort)) next words
   pub number : n ≡ length words
   pub front : take n out ≡ words
-  pub room : n + total (drop i (kindsOf sort)) ≤ 8
+  pub room : n + total (drop i (kindsOf sort)) ≤ mostWords
   pub within : next ≤ length text
   pub some : i ≤ length (kindsOf sort)
 
@@ -73,7 +73,7 @@ module _ {text : List ℕ} {sort : Sort} {at : ℕ} {out : List ℕ} {next n i :
         let z : endAfter (length (drop (suc i) (kindsOf sort))) ≡ e = sym (q ∙ ap endAfter others) in
         none (f .field) (f .after) (f .allowed) (rw z at (f .is))
 
-    pub room-more : {e after : ℕ} {few : Few} → FieldAt (getD (kindsOf sort) i Kind.Hex) text next e (Found.Words few after) → n + length (listOf few) ≤ 8
+    pub room-more : {e after : ℕ} {few : Few} → FieldAt (getD (kindsOf sort) i Kind.Hex) text next e (Found.Words few after) → n + length (listOf few) ≤ mostWords
     room-more {few = few} (FieldAt.words {f} s w) =
         let c : length (listOf few) ≡ placesOf (getD (kindsOf sort) i Kind.Hex) = sym (ap length w) ∙ words-places (getD (kindsOf sort) i Kind.Hex) f in
         omega (arith, p .room, more-total)

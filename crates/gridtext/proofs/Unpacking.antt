@@ -9,15 +9,15 @@ use lib.ListN.{length, getD, take, replicate, length-append}
 use lib.Seq.{getD-append-add}
 use Rattle.words.specs.Listing.{listing}
 use Rattle.measure.specs.Float.{bits}
-use Rattle.frame.specs.declared.Params.{Params}
 use Rattle.frame.specs.Stages.{Input}
 use Rattle.gridtext.specs.declared.FrameRead.{FrameRead}
-use Rattle.gridtext.specs.Lines.{Field, CornerLine, TriangleLine}
-use Rattle.gridtext.specs.Rows.{spreadWords, twinWord, wordOf}
-use Rattle.gridtext.specs.Text.{Frame}
-use Rattle.gridtext.specs.Read.{cornerWords, triangleWords, allWords, frameOf}
-use Rattle.gridtext.specs.Lists.{markOf, paramsOf, inputOf}
-use Rattle.gridtext.specs.Unpacked.{Standing, readParams, positionAt, slotAt, tripleAt, Front}
+use Rattle.gridtext.specs.Lines.{Field, CornerLine, TriangleLine, Line}
+use Rattle.gridtext.specs.Rows.{cornerSize, triangleSize, spreadWords, twinWord, wordOf}
+use Rattle.gridtext.specs.Text.{mostCornerLines, mostTriangleLines, Frame}
+use Rattle.gridtext.specs.Read.{cornerWords, triangleWords, lineWords, allWords, sortOf, frameOf}
+use Rattle.gridtext.specs.Lists.{markOf, inputOf}
+use Rattle.gridtext.specs.Unpacked.{Standing, positionAt, slotAt, tripleAt, Front}
+use Rattle.gridtext.proofs.Runs.{line-size}
 use Rattle.gridtext.proofs.Filling.{filled-front}
 
 -- ---- listings
@@ -70,19 +70,13 @@ unfolding allWords
 all-sized words size sized [] = omega arith
 all-sized words size sized (a ∷ lines) = length-append (words a) (allWords words lines) ∙ omega (arith, sized a, all-sized words size sized lines)
 
-corner-size : (c : CornerLine) → length (cornerWords c) ≡ 8
-unfolding cornerWords spreadWords
-corner-size c = go (c .spread0) (c .spread1)
-  where
-    go : (a b : Field) → length (c .x ∷ c .y ∷ c .angle0 ∷ (spreadWords a ++ (c .angle1 ∷ spreadWords b))) ≡ 8
-    go Field.minus Field.minus = refl
-    go Field.minus (Field.word w) = refl
-    go (Field.word v) Field.minus = refl
-    go (Field.word v) (Field.word w) = refl
+corner-size : (c : CornerLine) → length (cornerWords c) ≡ cornerSize
+unfolding lineWords sortOf
+corner-size c = line-size (Line.corner c)
 
-triangle-size : (t : TriangleLine) → length (triangleWords t) ≡ 6
-unfolding triangleWords
-triangle-size t = refl
+triangle-size : (t : TriangleLine) → length (triangleWords t) ≡ triangleSize
+unfolding lineWords sortOf
+triangle-size t = line-size (Line.triangle t)
 
 module _ {B : Type 0} (value : ℕ → B) where
   position-own : (c : CornerLine) (rest : List ℕ) → (listing 1 (λ (t : ℕ). value (getD (cornerWords c ++ rest) (positionAt 0 t) 0)) ≡ value (c .x) ∷ []) × (listing 1 (λ (t : ℕ). value (getD (cornerWords c ++ rest) (positionAt 1 t) 0)) ≡ value (c .y) ∷ [])
@@ -131,46 +125,44 @@ module _ (corners triangles : List ℕ) (r : FrameRead) (f : Frame) (s : Standin
       → listing (r .corners) (λ (t : ℕ). bits (getD corners (positionAt start t) 0)) ≡ map (λ (c : CornerLine). bits (at c)) (f .corners)
   ones start at own =
       let e : 1 * length (f .corners) ≡ length (f .corners) = omega arith in
-      rw (s .corners-are, many-corners, ← e) (unpacked cornerWords (λ (c : CornerLine). bits (at c) ∷ []) 8 1 (positionAt start) bits corner-size (λ t. omega arith) own (f .corners) (s .past) ∙ flat-map (λ (c : CornerLine). bits (at c)) (f .corners))
+      rw (s .corners-are, many-corners, ← e) (unpacked cornerWords (λ (c : CornerLine). bits (at c) ∷ []) cornerSize 1 (positionAt start) bits corner-size (λ t. omega arith) own (f .corners) (s .past) ∙ flat-map (λ (c : CornerLine). bits (at c)) (f .corners))
 
   twos : {B : Type 0} (value : ℕ → B) (start : ℕ) (slots : CornerLine → List B) → ((c : CornerLine) (rest : List ℕ) → listing 2 (λ (t : ℕ). value (getD (cornerWords c ++ rest) (slotAt start t) 0)) ≡ slots c)
       → listing (2 * r .corners) (λ (t : ℕ). value (getD corners (slotAt start t) 0)) ≡ flatMap slots (f .corners)
-  twos value start slots own = rw (s .corners-are, many-corners) (unpacked cornerWords slots 8 2 (slotAt start) value corner-size (λ t. omega arith) own (f .corners) (s .past))
+  twos value start slots own = rw (s .corners-are, many-corners) (unpacked cornerWords slots cornerSize 2 (slotAt start) value corner-size (λ t. omega arith) own (f .corners) (s .past))
 
   threes : (start : ℕ) (slots : TriangleLine → List ℕ) → ((t : TriangleLine) (rest : List ℕ) → listing 3 (λ (k : ℕ). getD (triangleWords t ++ rest) (tripleAt start k) 0) ≡ slots t)
       → listing (3 * r .triangles) (λ (k : ℕ). getD triangles (tripleAt start k) 0) ≡ flatMap slots (f .triangles)
-  threes start slots own = rw (s .triangles-are, many-triangles) (unpacked triangleWords slots 6 3 (tripleAt start) (λ (w : ℕ). w) triangle-size (λ t. omega arith) own (f .triangles) (s .rest))
+  threes start slots own = rw (s .triangles-are, many-triangles) (unpacked triangleWords slots triangleSize 3 (tripleAt start) (λ (w : ℕ). w) triangle-size (λ t. omega arith) own (f .triangles) (s .rest))
 
-  pub unpacked-input : (x y angles spreads : List Float) (marks named twins : List ℕ) (params : Params)
-      → Front (r .corners) 128 (bits 0) (λ (t : ℕ). bits (getD corners (positionAt 0 t) 0)) x
-      → Front (r .corners) 128 (bits 0) (λ (t : ℕ). bits (getD corners (positionAt 1 t) 0)) y
-      → Front (2 * r .corners) 256 (bits 0) (λ (t : ℕ). bits (getD corners (slotAt 2 t) 0)) angles
-      → Front (2 * r .corners) 256 0 (λ (t : ℕ). getD corners (slotAt 3 t) 0) marks
-      → Front (2 * r .corners) 256 (bits 0) (λ (t : ℕ). bits (getD corners (slotAt 4 t) 0)) spreads
-      → Front (3 * r .triangles) 768 0 (λ (t : ℕ). getD triangles (tripleAt 0 t) 0) named
-      → Front (3 * r .triangles) 768 0 (λ (t : ℕ). getD triangles (tripleAt 3 t) 0) twins
-      → params ≡ readParams (r .params)
-      → _≡_ {A = Input} (record { xs = take (r .corners) x; ys = take (r .corners) y; angles = take (2 * r .corners) angles; marks = take (2 * r .corners) marks; spreads = take (2 * r .corners) spreads; triangles = take (3 * r .triangles) named; twins = take (3 * r .triangles) twins; params = params }) (inputOf f)
-  unfolding inputOf paramsOf frameOf
-  unpacked-input x y angles spreads marks named twins params ex ey ea em es en et ep =
+  pub unpacked-input : (x y angles spreads : List Float) (marks named twins : List ℕ)
+      → Front (r .corners) mostCornerLines (bits 0) (λ (t : ℕ). bits (getD corners (positionAt 0 t) 0)) x
+      → Front (r .corners) mostCornerLines (bits 0) (λ (t : ℕ). bits (getD corners (positionAt 1 t) 0)) y
+      → Front (2 * r .corners) (2 * mostCornerLines) (bits 0) (λ (t : ℕ). bits (getD corners (slotAt 2 t) 0)) angles
+      → Front (2 * r .corners) (2 * mostCornerLines) 0 (λ (t : ℕ). getD corners (slotAt 3 t) 0) marks
+      → Front (2 * r .corners) (2 * mostCornerLines) (bits 0) (λ (t : ℕ). bits (getD corners (slotAt 4 t) 0)) spreads
+      → Front (3 * r .triangles) (3 * mostTriangleLines) 0 (λ (t : ℕ). getD triangles (tripleAt 0 t) 0) named
+      → Front (3 * r .triangles) (3 * mostTriangleLines) 0 (λ (t : ℕ). getD triangles (tripleAt 3 t) 0) twins
+      → _≡_ {A = Input} (record { xs = take (r .corners) x; ys = take (r .corners) y; angles = take (2 * r .corners) angles; marks = take (2 * r .corners) marks; spreads = take (2 * r .corners) spreads; triangles = take (3 * r .triangles) named; twins = take (3 * r .triangles) twins; params = r .params }) (inputOf f)
+  unfolding inputOf frameOf
+  unpacked-input x y angles spreads marks named twins ex ey ea em es en et =
       let n = r .corners in
       let m = r .triangles in
-      let words : params ≡ paramsOf (f .params) = ep ∙ ap (λ (q : FrameRead). readParams (q .params)) (s .read) in
       rw (
-        filled-front n _ (replicate 128 (bits 0)) x ex ∙ ones 0 (λ c. c .x) (λ c rest. position-own bits c rest .0),
-        filled-front n _ (replicate 128 (bits 0)) y ey ∙ ones 1 (λ c. c .y) (λ c rest. position-own bits c rest .1),
-        filled-front (2 * n) _ (replicate 256 (bits 0)) angles ea ∙ twos bits 2 _ (λ c rest. slot-own bits c rest .0),
-        filled-front (2 * n) _ (replicate 256 0) marks em ∙ twos (λ (w : ℕ). w) 3 _ (λ c rest. slot-own (λ (w : ℕ). w) c rest .1),
-        filled-front (2 * n) _ (replicate 256 (bits 0)) spreads es ∙ twos bits 4 _ (λ c rest. slot-own bits c rest .2),
-        filled-front (3 * m) _ (replicate 768 0) named en ∙ threes 0 _ (λ t rest. triple-own t rest .0),
-        filled-front (3 * m) _ (replicate 768 0) twins et ∙ threes 3 _ (λ t rest. triple-own t rest .1),
-        words,
+        filled-front n _ (replicate mostCornerLines (bits 0)) x ex ∙ ones 0 (λ c. c .x) (λ c rest. position-own bits c rest .0),
+        filled-front n _ (replicate mostCornerLines (bits 0)) y ey ∙ ones 1 (λ c. c .y) (λ c rest. position-own bits c rest .1),
+        filled-front (2 * n) _ (replicate (2 * mostCornerLines) (bits 0)) angles ea ∙ twos bits 2 _ (λ c rest. slot-own bits c rest .0),
+        filled-front (2 * n) _ (replicate (2 * mostCornerLines) 0) marks em ∙ twos (λ (w : ℕ). w) 3 _ (λ c rest. slot-own (λ (w : ℕ). w) c rest .1),
+        filled-front (2 * n) _ (replicate (2 * mostCornerLines) (bits 0)) spreads es ∙ twos bits 4 _ (λ c rest. slot-own bits c rest .2),
+        filled-front (3 * m) _ (replicate (3 * mostTriangleLines) 0) named en ∙ threes 0 _ (λ t rest. triple-own t rest .0),
+        filled-front (3 * m) _ (replicate (3 * mostTriangleLines) 0) twins et ∙ threes 3 _ (λ t rest. triple-own t rest .1),
+        ap (λ (q : FrameRead). q .params) (s .read),
       )
 
   -- ---- room: so many words stand there
 
-  pub corner-room : (r .corners ≤ 128) × (8 * r .corners ≤ length corners)
-  corner-room = (omega (arith, many-corners, s .within .corners), omega (arith, many-corners, ap length (s .corners-are), length-append (allWords cornerWords (f .corners)) (s .past), all-sized cornerWords 8 corner-size (f .corners)))
+  pub corner-room : (r .corners ≤ mostCornerLines) × (cornerSize * r .corners ≤ length corners)
+  corner-room = (omega (arith, many-corners, s .within .corners), omega (arith, many-corners, ap length (s .corners-are), length-append (allWords cornerWords (f .corners)) (s .past), all-sized cornerWords cornerSize corner-size (f .corners)))
 
-  pub triangle-room : (r .triangles ≤ 256) × (6 * r .triangles ≤ length triangles)
-  triangle-room = (omega (arith, many-triangles, s .within .triangles), omega (arith, many-triangles, ap length (s .triangles-are), length-append (allWords triangleWords (f .triangles)) (s .rest), all-sized triangleWords 6 triangle-size (f .triangles)))
+  pub triangle-room : (r .triangles ≤ mostTriangleLines) × (triangleSize * r .triangles ≤ length triangles)
+  triangle-room = (omega (arith, many-triangles, s .within .triangles), omega (arith, many-triangles, ap length (s .triangles-are), length-append (allWords triangleWords (f .triangles)) (s .rest), all-sized triangleWords triangleSize triangle-size (f .triangles)))

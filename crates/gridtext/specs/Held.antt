@@ -18,8 +18,15 @@ pub record Holds (components entries : List ℕ) (count : ℕ) (answer : List (L
   pub entries-are : entries ≡ entryWords (allEntries answer) ++ rest
   pub count-is : count ≡ length answer
 
--- a number takes at most ten digits, and eleven bytes with what stands before or after it: "components", its number; "component", three
--- numbers and the line feed; three numbers to an entry
+-- a number takes at most ten digits, and eleven bytes with what stands before or after it: "bad", its number and the line feed; "refused",
+-- two numbers and the line feed
+abbrev pub badBytes : ℕ
+badBytes = 15
+
+abbrev pub refusedBytes : ℕ
+refusedBytes = 30
+
+-- "components", its number and the line feed; "component", three numbers and the line feed; three numbers to an entry
 unfoldable pub mostBytes : (components entries : ℕ) → ℕ
 mostBytes components entries = 22 + 43 * components + 33 * entries
 

@@ -1,17 +1,19 @@
--- What reading a text leaves: the number of its first bad line, or its frame, as words in the front of two lists. A corner takes eight
--- words and a triangle six.
+-- What reading a text leaves: the number of its first bad line, or its frame: the parameters, and the other lines as words in the front of
+-- two lists.
 use mathlib.Core.Path.{_≡_}
 use mathlib.Core.List.{List, [], _∷_, _++_}
 use Prim.Native.Nat.{ℕ, _≤_, _<_}
 use lib.ListN.{length, take, drop}
 use Rattle.cells.specs.Listed.{In}
+use Rattle.frame.specs.declared.Params.{Params}
 use Rattle.gridtext.specs.declared.FrameRead.{FrameRead}
 use Rattle.gridtext.specs.declared.inner.line.Next.{Next}
 use Rattle.gridtext.specs.declared.Parsed.{Parsed}
 use Rattle.gridtext.specs.declared.inner.row.Sort.{Sort}
 use Rattle.gridtext.specs.Lines.{ParamsLine, CornerLine, TriangleLine, Line, lineOf, printed, LineWords}
-use Rattle.gridtext.specs.Rows.{spreadWords, twinWord, mostOf}
+use Rattle.gridtext.specs.Rows.{spreadWords, twinWord}
 use Rattle.gridtext.specs.Text.{Frame, Reads, Bad}
+use Rattle.gridtext.specs.Lists.{paramsOf}
 
 -- ---- the words of lines
 
@@ -38,6 +40,10 @@ allWords words (a ∷ as') = words a ++ allWords words as'
 abbrev pub Laid : List ℕ → List ℕ → List ℕ → Type 0
 Laid words before after = after ≡ words ++ drop (length words) before
 
+-- the parameters of whichever P line's words the list begins with
+abbrev pub ParamsStanding : List ℕ → Params → Type 0
+ParamsStanding words params = (p : ParamsLine) → take (length (paramWords p)) words ≡ paramWords p → params ≡ paramsOf p
+
 -- ---- one line of a sort, and a run of them
 
 unfoldable pub sortOf : Line → Sort
@@ -61,34 +67,22 @@ pub data LineAt (sort : Sort) (text : List ℕ) (at : ℕ) (out : List ℕ) : Ne
   nothing : NoLine sort text at → LineAt sort text at out Next.Nothing
   found : {l : Line} {next : ℕ} → Of sort l → LineStands text at l next → take (length (lineWords l)) out ≡ lineWords l → LineAt sort text at out (Next.At next)
 
--- from `at` on stand so many lines of the sort, as many as there are or as a text may have; their words are laid
-pub record LinesAt (sort : Sort) (text : List ℕ) (at : ℕ) (before after : List ℕ) (count next : ℕ) : Type 0 where
+-- from `at` on stand so many lines of the sort, as many as there are or `most` of them; their words are laid
+pub record LinesAt (sort : Sort) (most : ℕ) (text : List ℕ) (at : ℕ) (before after : List ℕ) (count next : ℕ) : Type 0 where
   pub lines : List Line
   pub each : (l : Line) → In l lines → Of sort l
   pub number : count ≡ length lines
-  pub few : count ≤ mostOf sort
+  pub few : count ≤ most
   pub is : drop at text ≡ printed lines ++ drop next text
   pub within : next ≤ length text
   pub laid : Laid (allWords lineWords lines) before after
   pub same : length after ≡ length before
-  pub ends : count < mostOf sort → NoLine sort text next
+  pub ends : count < most → NoLine sort text next
 
 -- ---- the whole text
 
 unfoldable pub frameOf : Frame → FrameRead
-frameOf f = record {
-  params = record {
-    tolerance = f .params .tolerance;
-    ratio = f .params .ratio;
-    least = f .params .least;
-    greatest = f .params .greatest;
-    limit = f .params .limit;
-    quads = f .params .quads;
-    corners = f .params .corners;
-  };
-  corners = length (f .corners);
-  triangles = length (f .triangles);
-}
+frameOf f = record { params = paramsOf (f .params); corners = length (f .corners); triangles = length (f .triangles) }
 
 -- where the text is bad, the lists may hold anything: nobody reads them then
 pub data Parses (text corners₀ corners triangles₀ triangles : List ℕ) : Parsed → Type 0 where

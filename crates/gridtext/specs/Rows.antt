@@ -5,6 +5,7 @@ use mathlib.Core.Path.{_≡_}
 use mathlib.Core.List.{List, [], _∷_, _++_}
 use Prim.Native.Nat.{ℕ, zero, suc, _+_, _≤_}
 use lib.ListN.{length, drop}
+use Rattle.mesh.specs.HalfEdge.{noTwin}
 use Rattle.digits.specs.Digits.{hexOf, decimalOf}
 use Rattle.digits.specs.declared.Taken.{Taken}
 use Rattle.gridtext.specs.declared.inner.row.Few.{Few}
@@ -12,7 +13,6 @@ use Rattle.gridtext.specs.declared.inner.row.Found.{Found}
 use Rattle.gridtext.specs.declared.inner.row.Kind.{Kind}
 use Rattle.gridtext.specs.declared.inner.row.Sort.{Sort}
 use Rattle.gridtext.specs.Lines.{Field, fieldOf, IsWord}
-use Rattle.gridtext.specs.Text.{mostCornerLines, mostTriangleLines}
 
 -- ---- sorts of line
 
@@ -26,16 +26,21 @@ kindsOf Sort.Params = Kind.Hex ∷ Kind.Hex ∷ Kind.Hex ∷ Kind.Hex ∷ Kind.H
 kindsOf Sort.Corner = Kind.Hex ∷ Kind.Hex ∷ Kind.Hex ∷ Kind.Spread ∷ Kind.Hex ∷ Kind.Spread ∷ []
 kindsOf Sort.Triangle = Kind.Decimal ∷ Kind.Decimal ∷ Kind.Decimal ∷ Kind.Twin ∷ Kind.Twin ∷ Kind.Twin ∷ []
 
--- how many words a line gives, and how many such lines a text has at most
+-- how many words a line gives: those of a C line are x, y, and twice angle, mark, spread, those of a T line three corners and three twins
+abbrev pub cornerSize : ℕ
+cornerSize = 8
+
+abbrev pub triangleSize : ℕ
+triangleSize = 6
+
 abbrev pub sizeOf : Sort → ℕ
 sizeOf Sort.Params = 7
-sizeOf Sort.Corner = 8
-sizeOf Sort.Triangle = 6
+sizeOf Sort.Corner = cornerSize
+sizeOf Sort.Triangle = triangleSize
 
-abbrev pub mostOf : Sort → ℕ
-mostOf Sort.Params = 1
-mostOf Sort.Corner = mostCornerLines
-mostOf Sort.Triangle = mostTriangleLines
+-- no line gives more than a C line
+abbrev pub mostWords : ℕ
+mostWords = cornerSize
 
 -- the byte after a field: a blank where others follow, and else a line feed
 abbrev pub endAfter : (others : ℕ) → ℕ
@@ -55,13 +60,13 @@ pub data Allowed : Kind → Field → Type 0 where
   spread : Allowed Kind.Spread Field.minus
   twin : Allowed Kind.Twin Field.minus
 
--- a spread has a mark before it, 0 where it is missing; no twin is 4,294,967,295
+-- a spread has a mark before it, 0 where it is missing
 unfoldable pub spreadWords : Field → List ℕ
 spreadWords Field.minus = 0 ∷ 0 ∷ []
 spreadWords (Field.word v) = 1 ∷ v ∷ []
 
 unfoldable pub twinWord : Field → ℕ
-twinWord Field.minus = 4294967295
+twinWord Field.minus = noTwin
 twinWord (Field.word v) = v
 
 unfoldable pub wordOf : Field → ℕ

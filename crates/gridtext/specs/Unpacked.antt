@@ -6,7 +6,7 @@ use lib.ListN.{length, drop, replicate}
 use Rattle.refusal.specs.declared.Gate.the-variants.{Open, Shut}
 use Rattle.refusal.specs.declared.Refusal.{Refusal}
 use Rattle.words.specs.Listing.{listing}
-use Rattle.measure.specs.Float.{bits}
+use Rattle.mesh.specs.Lists.{frameWords}
 use Rattle.cells.specs.Listed.{Entry}
 use Rattle.walk.specs.declared.Labelled.{Labelled}
 use Rattle.walk.specs.declared.Labelled.the-variants.{Done, Refused}
@@ -14,23 +14,23 @@ use Rattle.walk.specs.Call.{allEntries}
 use Rattle.walk.specs.Emitting.{Written}
 use Rattle.frame.specs.Stages.{Input, Answer}
 use Rattle.frame.specs.Call.{judgeOf}
-use Rattle.frame.specs.declared.Params.{Params}
 use Rattle.gridtext.specs.declared.FrameRead.{FrameRead}
-use Rattle.gridtext.specs.declared.ParamWords.{ParamWords}
-use Rattle.gridtext.specs.Text.{Frame, Within, Reads}
+use Rattle.gridtext.specs.Rows.{cornerSize, triangleSize}
+use Rattle.gridtext.specs.Text.{mostCornerLines, mostTriangleLines, Frame, Within, Reads}
 use Rattle.gridtext.specs.Read.{cornerWords, triangleWords, allWords, frameOf}
 use Rattle.gridtext.specs.Lists.{inputOf}
 use Rattle.gridtext.specs.Gridlabel.{Answered}
 
--- what the program's own lists have room for: components, entries, and words of workspace (16 for each of 768 half-edges and 128 corners)
+-- what the program's own lists have room for: components, of which each has a quad at least, and a quad takes two triangles; entries, of
+-- which a quad gives four at most; and words of workspace
 abbrev pub mostComponents : ℕ
-mostComponents = 128
+mostComponents = mostTriangleLines / 2
 
 abbrev pub mostEntries : ℕ
-mostEntries = 512
+mostEntries = 4 * mostComponents
 
 abbrev pub workWords : ℕ
-workWords = 14336
+workWords = frameWords (3 * mostTriangleLines) mostCornerLines
 
 -- the lists begin with the words of the frame's lines
 pub record Standing (corners triangles : List ℕ) (r : FrameRead) (f : Frame) : Type 0 where
@@ -41,23 +41,15 @@ pub record Standing (corners triangles : List ℕ) (r : FrameRead) (f : Frame) :
   pub corners-are : corners ≡ allWords cornerWords (f .corners) ++ past
   pub triangles-are : triangles ≡ allWords triangleWords (f .triangles) ++ rest
 
--- the parameters of a P line's words
-abbrev pub readParams : ParamWords → Params
-readParams w = record {
-  edges = record { tolerance = bits (w .tolerance); spread = record { limit = bits (w .limit) } };
-  filters = record { ratio = bits (w .ratio); least = bits (w .least); greatest = bits (w .greatest) };
-  labels = record { quads = w .quads; corners = w .corners };
-}
-
--- where a list's slot t stands among the words: one of eight a corner, two of eight a corner, three of six a triangle
+-- where a list's slot t stands among the words: one of a corner's, two of them, three of a triangle's
 abbrev pub positionAt : (start t : ℕ) → ℕ
-positionAt start t = 8 * t + start
+positionAt start t = cornerSize * t + start
 
 abbrev pub slotAt : (start t : ℕ) → ℕ
-slotAt start t = 8 * (t / 2) + 3 * (t % 2) + start
+slotAt start t = cornerSize * (t / 2) + 3 * (t % 2) + start
 
 abbrev pub tripleAt : (start t : ℕ) → ℕ
-tripleAt start t = 6 * (t / 3) + t % 3 + start
+tripleAt start t = triangleSize * (t / 3) + t % 3 + start
 
 -- n values at the front of an array, and behind them what it was made with
 abbrev pub Front : {A : Type 0} → (n room : ℕ) → A → (ℕ → A) → List A → Type 0

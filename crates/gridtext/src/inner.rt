@@ -1,53 +1,75 @@
 // The reader of a text, for a caller that lends lists with room for the most lines that a text may have; in `label`, the labelling of the
-// frame read; and in `print`, the answer as text.
+// frame read; in `print`, the answer as text; and in `room`, the sizes of all lists.
 ghost use mathlib.Core.Path.{_≡_};
-ghost use mathlib.Core.List.{[], _∷_};
-ghost use Prim.Native.Nat.{_≤_};
-ghost use lib.ListN.{length, take};
-ghost use Rattle.gridtext.specs.Read.{Parses};
+ghost use Prim.Native.Nat.{_*_, _≤_};
+ghost use lib.ListN.{length};
+ghost use Rattle.gridtext.specs.Read.{ParamsStanding, Parses};
+ghost use Rattle.gridtext.specs.Rows.{cornerSize, triangleSize, mostWords};
+ghost use Rattle.gridtext.specs.Text.{mostCornerLines, mostTriangleLines};
 use crate::FrameRead;
-use crate::ParamWords;
 use crate::Parsed;
+use axis::SpreadRule;
+use classify::EdgeParams;
+use fates::LabelParams;
+use filter::FilterParams;
+use frame::Params;
 use line::Next;
 use line::line_at;
 use lines::lines_at;
+use measure::inner::float_of;
 use row::Sort;
 
 pub mod label;
 mod line;
 mod lines;
 pub mod print;
+pub mod room;
 mod row;
 mod unpack;
 
-// The parameters whose words the list begins with.
-fn params_of(words: &[u32; 8]) -> ParamWords
-    requires { ⌜ length (now words) ≡ 8 ⌝ }
-    ensures { λ r. ⌜ take 7 (now (words .entry)) ≡ r .tolerance ∷ r .ratio ∷ r .least ∷ r .greatest ∷ r .limit ∷ r .quads ∷ r .corners ∷ [] ⌝ }
+// The parameters of the P line whose words the list begins with.
+fn params_of(words: &[u32; room::MOST_WORDS]) -> Params
+    requires { ⌜ length (now words) ≡ mostWords ⌝ }
+    ensures { λ r. ⌜ ParamsStanding (now (words .entry)) r ⌝ }
 {
-    ParamWords {
-        tolerance: words[0],
-        ratio: words[1],
-        least: words[2],
-        greatest: words[3],
-        limit: words[4],
-        quads: words[5],
-        corners: words[6],
+    let spread = SpreadRule {
+        limit: float_of(words[4]),
+    };
+    Params {
+        edges: EdgeParams {
+            tolerance: float_of(words[0]),
+            spread,
+        },
+        filters: FilterParams {
+            ratio: float_of(words[1]),
+            least: float_of(words[2]),
+            greatest: float_of(words[3]),
+        },
+        labels: LabelParams {
+            quads: words[5],
+            corners: words[6],
+        },
     }
 }
 
-// Reads a text: the P line, then the C lines, then the T lines, each as far as they go; what follows them is the first bad line.
+// Reads a text: the P line, then the C lines, then the T lines, each as far as they go or may; what follows them is the first bad line.
 pub fn read(text: &[u8], corners: &mut [u32], triangles: &mut [u32]) -> Parsed
-    requires { ⌜ (1024 ≤ length (now corners)) × (1536 ≤ length (now triangles)) ⌝ }
+    requires { ⌜ (mostCornerLines * cornerSize ≤ length (now corners)) × (mostTriangleLines * triangleSize ≤ length (now triangles)) ⌝ }
     ensures { λ r. ⌜ Parses (now (text .entry)) (now (corners .entry)) (now (corners .exit)) (now (triangles .entry)) (now (triangles .exit)) r ⌝ }
 {
-    let mut words = [0u32; 8];
+    let mut words = [0u32; room::MOST_WORDS];
     let first = line_at(text, 0, Sort::Params, &mut words);
     let Next::At(at) = first else {
         return Parsed::Bad(1);
     };
-    let c = lines_at(text, at, Sort::Corner, corners);
-    let t = lines_at(text, c.next, Sort::Triangle, triangles);
+    let c = lines_at(text, at, Sort::Corner, room::MOST_CORNER_LINES, corners);
+    let t = lines_at(
+        text,
+        c.next,
+        Sort::Triangle,
+        room::MOST_TRIANGLE_LINES,
+        triangles,
+    );
     if t.next < text.len() {
         return Parsed::Bad((c.count + t.count + 2) as u32);
     }

@@ -4,8 +4,9 @@ ghost use mathlib.Core.List.{_++_};
 ghost use Prim.Native.Nat.{_+_, _≤_};
 ghost use lib.ListN.{length, take};
 ghost use Rattle.digits.specs.Run.{endOf};
-ghost use Rattle.gridtext.specs.Rows.{listOf, endAfter};
+ghost use Rattle.gridtext.specs.Rows.{mostWords, listOf, endAfter};
 ghost use Rattle.gridtext.specs.Read.{LineAt};
+use crate::inner::room;
 use crate::inner::row;
 use digits::End;
 use row::Few;
@@ -13,7 +14,7 @@ use row::Found;
 use row::Sort;
 
 // A line that was looked for: where the text goes on after it.
-pub enum Next {
+pub(crate) enum Next {
     Nothing,
     At(usize),
 }
@@ -26,9 +27,9 @@ fn end_of(others: usize) -> End
 }
 
 // Puts a field's words after the first n; answers how many they are then.
-fn put(few: Few, words: &mut [u32; 8], n: usize) -> usize
-    requires { ⌜ (length (now words) ≡ 8) × (n + length (listOf few) ≤ 8) ⌝ }
-    ensures { λ r. ⌜ (length (now (words .exit)) ≡ 8) × (r ≡ n + length (listOf few)) × (take r (now (words .exit)) ≡ take n (now (words .entry)) ++ listOf few) ⌝ }
+fn put_words(few: Few, words: &mut [u32; room::MOST_WORDS], n: usize) -> usize
+    requires { ⌜ (length (now words) ≡ mostWords) × (n + length (listOf few) ≤ mostWords) ⌝ }
+    ensures { λ r. ⌜ (length (now (words .exit)) ≡ mostWords) × (r ≡ n + length (listOf few)) × (take r (now (words .exit)) ≡ take n (now (words .entry)) ++ listOf few) ⌝ }
 {
     match few {
         Few::One(word) => {
@@ -44,9 +45,14 @@ fn put(few: Few, words: &mut [u32; 8], n: usize) -> usize
 }
 
 // A line of the sort from `at` on; its words to the front of the list.
-pub fn line_at(text: &[u8], at: usize, sort: Sort, words: &mut [u32; 8]) -> Next
-    requires { ⌜ length (now words) ≡ 8 ⌝ }
-    ensures { λ r. ⌜ (length (now (words .exit)) ≡ 8) × LineAt sort (now (text .entry)) at (now (words .exit)) r ⌝ }
+pub(crate) fn line_at(
+    text: &[u8],
+    at: usize,
+    sort: Sort,
+    words: &mut [u32; room::MOST_WORDS],
+) -> Next
+    requires { ⌜ length (now words) ≡ mostWords ⌝ }
+    ensures { λ r. ⌜ (length (now (words .exit)) ≡ mostWords) × LineAt sort (now (text .entry)) at (now (words .exit)) r ⌝ }
 {
     if !row::pair_at(text, at, row::letter(sort), b' ') {
         return Next::Nothing;
@@ -60,7 +66,7 @@ pub fn line_at(text: &[u8], at: usize, sort: Sort, words: &mut [u32; 8]) -> Next
         let Found::Words(few, after) = found else {
             return Next::Nothing;
         };
-        n = put(few, words, n);
+        n = put_words(few, words, n);
         next = after;
         i += 1;
     }

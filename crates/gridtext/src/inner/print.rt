@@ -6,13 +6,13 @@ ghost use lib.ListN.{length};
 ghost use Rattle.walk.specs.Read.{entryAt, entriesFrom, componentAt};
 ghost use Rattle.digits.specs.Digits.{decimalOf};
 ghost use Rattle.gridtext.specs.Answer.{badText, refusedText, entryLine, entryLines, componentLines};
-ghost use Rattle.gridtext.specs.Held.{Printable, PrintsHeld, Readable};
+ghost use Rattle.gridtext.specs.Held.{badBytes, refusedBytes, Printable, PrintsHeld, Readable};
 ghost use Rattle.gridtext.specs.Printed.{Printed, Room, lastFields};
 use refusal::Refusal;
 use words::inner::wide;
 
 // The bytes as they are.
-fn put(out: &mut [u8], at: usize, text: &[u8]) -> usize
+fn put_bytes(out: &mut [u8], at: usize, text: &[u8]) -> usize
     requires { ⌜ Room (now out) at (now text) ⌝ }
     ensures { λ r. ⌜ Printed (now (out .entry)) (now (out .exit)) at (now (text .entry)) r ⌝ }
 {
@@ -37,7 +37,7 @@ fn put_field(out: &mut [u8], at: usize, n: u32) -> usize
     requires { ⌜ Room (now out) at (32 ∷ decimalOf n) ⌝ }
     ensures { λ r. ⌜ Printed (now (out .entry)) (now (out .exit)) at (32 ∷ decimalOf n) r ⌝ }
 {
-    let next = put(out, at, b" ");
+    let next = put_bytes(out, at, b" ");
     put_number(out, next, n)
 }
 
@@ -47,7 +47,7 @@ fn end_one(out: &mut [u8], at: usize, a: u32) -> usize
     ensures { λ r. ⌜ Printed (now (out .entry)) (now (out .exit)) at (lastFields (decimalOf a ∷ [])) r ⌝ }
 {
     let next = put_field(out, at, a);
-    put(out, next, b"\n")
+    put_bytes(out, next, b"\n")
 }
 
 // The last two fields of a line.
@@ -70,21 +70,21 @@ fn end_three(out: &mut [u8], at: usize, a: u32, b: u32, c: u32) -> usize
 
 // The first line that is bad.
 pub fn print_bad(line: u32, out: &mut [u8]) -> usize
-    requires { ⌜ 15 ≤ length (now out) ⌝ }
+    requires { ⌜ badBytes ≤ length (now out) ⌝ }
     ensures { λ r. ⌜ Printed (now (out .entry)) (now (out .exit)) 0 (badText line) r ⌝ }
 {
-    let next = put(out, 0, b"bad");
+    let next = put_bytes(out, 0, b"bad");
     end_one(out, next, line)
 }
 
 // A refusal, by its number and place.
 pub fn print_refused(why: Refusal, out: &mut [u8]) -> usize
-    requires { ⌜ 30 ≤ length (now out) ⌝ }
+    requires { ⌜ refusedBytes ≤ length (now out) ⌝ }
     ensures { λ r. ⌜ Printed (now (out .entry)) (now (out .exit)) 0 (refusedText why) r ⌝ }
 {
     let number = refusal::number(why);
     let place = refusal::place(why);
-    let next = put(out, 0, b"refused");
+    let next = put_bytes(out, 0, b"refused");
     end_two(out, next, number, place)
 }
 
@@ -123,7 +123,7 @@ fn put_component(components: &[u32], entries: &[u32], j: u32, out: &mut [u8], at
     let before = components[place];
     let count = components[place + 1];
     let holes = components[place + 2];
-    let word = put(out, at, b"component");
+    let word = put_bytes(out, at, b"component");
     let next = end_three(out, word, j, count, holes);
     put_entries(entries, wide(before), wide(count), out, next)
 }
@@ -133,7 +133,7 @@ pub fn print_components(components: &[u32], entries: &[u32], count: u32, out: &m
     requires { ⌜ Printable (now components) (now entries) count (length (now out)) ⌝ }
     ensures { λ r. ⌜ PrintsHeld (now (components .entry)) (now (entries .entry)) count (now (out .entry)) (now (out .exit)) r ⌝ }
 {
-    let word = put(out, 0, b"components");
+    let word = put_bytes(out, 0, b"components");
     let mut next = end_one(out, word, count);
     let mut j = 0;
     while j < count {

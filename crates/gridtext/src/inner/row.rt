@@ -3,17 +3,21 @@ ghost use mathlib.Core.Path.{_≡_};
 ghost use Prim.Native.Nat.{_+_, _<_};
 ghost use lib.ListN.{length, getD};
 ghost use Rattle.digits.specs.Run.{endOf};
-ghost use Rattle.gridtext.specs.Rows.{letterOf, kindsOf, sizeOf, mostOf, foundOf, PairAt, FieldAt};
+ghost use Rattle.gridtext.specs.Rows.{letterOf, kindsOf, sizeOf, foundOf, PairAt, FieldAt};
+use crate::inner::room;
 use digits::End;
 use digits::Taken;
+use mesh::inner::twins::NO_TWIN;
 
-pub enum Sort {
+// The sorts of line: the P line, a C line, a T line.
+pub(crate) enum Sort {
     Params,
     Corner,
     Triangle,
 }
 
-pub enum Kind {
+// The kinds of field: a float's hex digits, a decimal number, a spread and a twin; a minus can stand for the last two.
+pub(crate) enum Kind {
     Hex,
     Decimal,
     Spread,
@@ -21,18 +25,19 @@ pub enum Kind {
 }
 
 // The words that a field gives: one, or a mark and a spread.
-pub enum Few {
+pub(crate) enum Few {
     One(u32),
     Two(u32, u32),
 }
 
 // A field that was looked for: its words and where the text goes on.
-pub enum Found {
+pub(crate) enum Found {
     Nothing,
     Words(Few, usize),
 }
 
-pub fn letter(sort: Sort) -> u8
+// The letter that a line begins with.
+pub(crate) fn letter(sort: Sort) -> u8
     ensures { λ r. ⌜ r ≡ letterOf sort ⌝ }
 {
     match sort {
@@ -43,7 +48,7 @@ pub fn letter(sort: Sort) -> u8
 }
 
 // How many fields a line has.
-pub fn fields(sort: Sort) -> usize
+pub(crate) fn fields(sort: Sort) -> usize
     ensures { λ r. ⌜ r ≡ length (kindsOf sort) ⌝ }
 {
     match sort {
@@ -54,29 +59,18 @@ pub fn fields(sort: Sort) -> usize
 }
 
 // How many words it gives.
-pub fn size(sort: Sort) -> usize
+pub(crate) fn size(sort: Sort) -> usize
     ensures { λ r. ⌜ r ≡ sizeOf sort ⌝ }
 {
     match sort {
         Sort::Params => 7,
-        Sort::Corner => 8,
-        Sort::Triangle => 6,
-    }
-}
-
-// How many such lines a text may have.
-pub fn most(sort: Sort) -> usize
-    ensures { λ r. ⌜ r ≡ mostOf sort ⌝ }
-{
-    match sort {
-        Sort::Params => 1,
-        Sort::Corner => 128,
-        Sort::Triangle => 256,
+        Sort::Corner => room::CORNER_SIZE,
+        Sort::Triangle => room::TRIANGLE_SIZE,
     }
 }
 
 // The kind of field i.
-pub fn kind_at(sort: Sort, i: usize) -> Kind
+pub(crate) fn kind_at(sort: Sort, i: usize) -> Kind
     requires { ⌜ i < length (kindsOf sort) ⌝ }
     ensures { λ r. ⌜ r ≡ getD (kindsOf sort) i Kind.Hex ⌝ }
 {
@@ -96,23 +90,23 @@ pub fn kind_at(sort: Sort, i: usize) -> Kind
 }
 
 // Whether two bytes stand at `at`.
-pub fn pair_at(text: &[u8], at: usize, first: u8, second: u8) -> bool
+pub(crate) fn pair_at(text: &[u8], at: usize, first: u8, second: u8) -> bool
     ensures { λ r. ⌜ PairAt (now (text .entry)) at first second r ⌝ }
 {
-    if text.len() < 2 {
-        return false;
-    }
-    if text.len() - 2 < at {
+    if text.len() <= at {
         return false;
     }
     if text[at] != first {
         return false;
     }
-    text[at + 1] == second
+    if at + 1 < text.len() {
+        return text[at + 1] == second;
+    }
+    false
 }
 
-// A word as a field of one word, and as a spread with its mark.
-fn one(taken: Taken) -> Found
+// A word that was taken, as a field of one word.
+fn one_word(taken: Taken) -> Found
     ensures { λ r. ⌜ r ≡ foundOf Few.One taken ⌝ }
 {
     match taken {
@@ -121,7 +115,8 @@ fn one(taken: Taken) -> Found
     }
 }
 
-fn two(taken: Taken) -> Found
+// A word that was taken, as a spread: the mark 1 says that it is there.
+fn marked_word(taken: Taken) -> Found
     ensures { λ r. ⌜ r ≡ foundOf (Few.Two 1) taken ⌝ }
 {
     match taken {
@@ -130,31 +125,33 @@ fn two(taken: Taken) -> Found
     }
 }
 
+// A spread from `at` on, then the end: a minus where it is missing, or else a float.
 fn spread_at(text: &[u8], at: usize, end: End) -> Found
     ensures { λ r. ⌜ FieldAt Kind.Spread (now (text .entry)) at (endOf end) r ⌝ }
 {
     if pair_at(text, at, b'-', digits::byte(end)) {
         return Found::Words(Few::Two(0, 0), at + 2);
     }
-    two(digits::hex_at(text, at, end))
+    marked_word(digits::hex_at(text, at, end))
 }
 
+// A twin from `at` on, then the end: a minus where there is none, or else a number.
 fn twin_at(text: &[u8], at: usize, end: End) -> Found
     ensures { λ r. ⌜ FieldAt Kind.Twin (now (text .entry)) at (endOf end) r ⌝ }
 {
     if pair_at(text, at, b'-', digits::byte(end)) {
-        return Found::Words(Few::One(4294967295), at + 2);
+        return Found::Words(Few::One(NO_TWIN), at + 2);
     }
-    one(digits::decimal_at(text, at, end))
+    one_word(digits::decimal_at(text, at, end))
 }
 
 // A field of the kind from `at` on, then the end.
-pub fn field_at(text: &[u8], at: usize, kind: Kind, end: End) -> Found
+pub(crate) fn field_at(text: &[u8], at: usize, kind: Kind, end: End) -> Found
     ensures { λ r. ⌜ FieldAt kind (now (text .entry)) at (endOf end) r ⌝ }
 {
     match kind {
-        Kind::Hex => one(digits::hex_at(text, at, end)),
-        Kind::Decimal => one(digits::decimal_at(text, at, end)),
+        Kind::Hex => one_word(digits::hex_at(text, at, end)),
+        Kind::Decimal => one_word(digits::decimal_at(text, at, end)),
         Kind::Spread => spread_at(text, at, end),
         Kind::Twin => twin_at(text, at, end),
     }

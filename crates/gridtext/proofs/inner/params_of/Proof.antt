@@ -1,56 +1,83 @@
--- `params_of` names the first seven words.
-use mathlib.Core.List.{List, [], _∷_}
-use mathlib.Core.Path.{_≡_, refl}
-use Prim.Native.Nat.{ℕ, _≤_}
+-- `params_of` takes the first seven words, five of them as floats by their bits.
+use mathlib.Core.List.{List}
+use mathlib.Core.Path.{_≡_, sym, ap, _∙_}
+use Prim.Native.Nat.{ℕ, _<_}
 use native.Mathlib.Omega.{arith}
 use lib.ListN.{length, getD, take}
+use lib.Seq.{getD-take}
+use Rattle.gridtext.specs.Lines.{ParamsLine}
+use Rattle.gridtext.specs.Lists.{paramsOf}
+use Rattle.gridtext.specs.Read.{paramWords}
 use borrow.Author.Needs.{needs}
 use Rattle.gridtext.proofs.inner.params_of.Statement.{statement}
 use Rattle.gridtext.proofs.inner.params_of.Tie as tie
 
-seven : (l : List ℕ) → 7 ≤ length l → take 7 l ≡ getD l 0 0 ∷ getD l 1 0 ∷ getD l 2 0 ∷ getD l 3 0 ∷ getD l 4 0 ∷ getD l 5 0 ∷ getD l 6 0 ∷ []
-seven [] h = absurd (omega arith)
-seven (a ∷ []) h = absurd (omega arith)
-seven (a ∷ b ∷ []) h = absurd (omega arith)
-seven (a ∷ b ∷ c ∷ []) h = absurd (omega arith)
-seven (a ∷ b ∷ c ∷ d ∷ []) h = absurd (omega arith)
-seven (a ∷ b ∷ c ∷ d ∷ e ∷ []) h = absurd (omega arith)
-seven (a ∷ b ∷ c ∷ d ∷ e ∷ f ∷ []) h = absurd (omega arith)
-seven (a ∷ b ∷ c ∷ d ∷ e ∷ f ∷ g ∷ l) h = refl
+front-word : (l : List ℕ) (p : ParamsLine) → take (length (paramWords p)) l ≡ paramWords p → (i : ℕ) → i < length (paramWords p) → getD l i 0 ≡ getD (paramWords p) i 0
+front-word l p e i h = sym (getD-take (length (paramWords p)) l i 0 h) ∙ ap (λ (x : List ℕ). getD x i 0) e
 
-element-copy-out-t4 : tie.Need-element-copy-out-t4
-element-copy-out-t4 c = search needs
+element-copy-out-float-of : tie.Need-element-copy-out-float-of
+element-copy-out-float-of c = search needs
 
-element-copy-out-t7 : tie.Need-element-copy-out-t7
-element-copy-out-t7 c = search needs
+float-of-requires : tie.Need-float-of-requires
+float-of-requires c κs = search needs
 
-element-copy-out-t10 : tie.Need-element-copy-out-t10
-element-copy-out-t10 c = search needs
+element-copy-out-float-of-2 : tie.Need-element-copy-out-float-of-2
+element-copy-out-float-of-2 c = search needs
 
-element-copy-out-t13 : tie.Need-element-copy-out-t13
-element-copy-out-t13 c = search needs
+float-of-requires-2 : tie.Need-float-of-requires-2
+float-of-requires-2 c κs = search needs
 
-element-copy-out-t16 : tie.Need-element-copy-out-t16
-element-copy-out-t16 c = search needs
+element-copy-out-float-of-3 : tie.Need-element-copy-out-float-of-3
+element-copy-out-float-of-3 c = search needs
 
-element-copy-out-t19 : tie.Need-element-copy-out-t19
-element-copy-out-t19 c = search needs
+float-of-requires-3 : tie.Need-float-of-requires-3
+float-of-requires-3 c κs = search needs
 
-element-copy-out-t22 : tie.Need-element-copy-out-t22
-element-copy-out-t22 c = search needs
+element-copy-out-float-of-4 : tie.Need-element-copy-out-float-of-4
+element-copy-out-float-of-4 c = search needs
+
+float-of-requires-4 : tie.Need-float-of-requires-4
+float-of-requires-4 c κs = search needs
+
+element-copy-out-float-of-5 : tie.Need-element-copy-out-float-of-5
+element-copy-out-float-of-5 c = search needs
+
+float-of-requires-5 : tie.Need-float-of-requires-5
+float-of-requires-5 c κs = search needs
+
+element-copy-out-t25 : tie.Need-element-copy-out-t25
+element-copy-out-t25 c = search needs
+
+element-copy-out-t28 : tie.Need-element-copy-out-t28
+element-copy-out-t28 c = search needs
 
 returns : tie.Need-returns
-returns c = seven (c .before .before .before .before .before .before .before .args .words .now) (omega (arith, c .before .before .before .before .before .before .before .pre))
+unfolding paramWords paramsOf
+returns c = λ p e.
+    let w = front-word (c .before .before .before .before .before .before .before .before .before .before .before .before .args .words .now) p e in
+    let tolerance = w 0 (omega arith) in
+    let ratio = w 1 (omega arith) in
+    let least = w 2 (omega arith) in
+    let greatest = w 3 (omega arith) in
+    let limit = w 4 (omega arith) in
+    let quads = w 5 (omega arith) in
+    let corners = w 6 (omega arith) in
+    cc
 
 pub params-of-spec : {M : Type 1} → statement M
 params-of-spec =
     tie.close
     (tie.spec
-    element-copy-out-t4
-    element-copy-out-t7
-    element-copy-out-t10
-    element-copy-out-t13
-    element-copy-out-t16
-    element-copy-out-t19
-    element-copy-out-t22
+    element-copy-out-float-of
+    float-of-requires
+    element-copy-out-float-of-2
+    float-of-requires-2
+    element-copy-out-float-of-3
+    float-of-requires-3
+    element-copy-out-float-of-4
+    float-of-requires-4
+    element-copy-out-float-of-5
+    float-of-requires-5
+    element-copy-out-t25
+    element-copy-out-t28
     returns)

@@ -1,5 +1,6 @@
 -- `read` answers the first bad line, or the frame: what the three readers found is a text's beginning, and what follows it decides.
-use mathlib.Core.Path.{refl, sym, _∙_}
+use mathlib.Core.Path.{refl}
+use native.Mathlib.Omega.{arith}
 use Rattle.gridtext.specs.Read.{Parses}
 use Rattle.gridtext.proofs.Runs.{line-missing}
 use Rattle.gridtext.proofs.Outcomes.{bad-first, line-within, found-three, reads-all, bad-behind, corner-count, triangle-count, corners-laid, triangles-laid, frame-is}
@@ -20,7 +21,7 @@ returns : tie.Need-returns
 returns c = Parses.bad (bad-first (c .before .before .before .before .before .before .before .args .text .now) (line-missing (rw (c .enum-told .given .1) at (c .before .before .line-at .ensures .1)))) refl refl
 
 lines-at-requires : tie.Need-lines-at-requires
-lines-at-requires c κs = (line-within (rw (c .before .before .first .given .1) at (c .before .before .before .before .line-at .ensures .1)), c .before .before .before .before .before .before .before .before .before .pre .0)
+lines-at-requires c κs = (line-within (rw (c .before .before .first .given .1) at (c .before .before .before .before .line-at .ensures .1)), omega arith)
 
 lines-at-requires-2 : tie.Need-lines-at-requires-2
 lines-at-requires-2 c κs = search needs
@@ -58,7 +59,7 @@ returns-3 : tie.Need-returns-3
 returns-3 c =
     let f = found-three (rw (c .before .before .before .before .before .before .before .before .before .before .before .before .before .first .given .1) at (c .before .before .before .before .before .before .before .before .before .before .before .before .before .before .before .line-at .ensures .1)) (c .before .before .before .before .before .before .before .before .before .before .lines-at .ensures) (c .before .before .before .before .before .before .lines-at2 .ensures) in
     let w = f .three in
-    Parses.read (f .frame) (reads-all w (c .before .before .if1 .left)) (frame-is (c .params-of .result) _ _ (f .frame) (corner-count w) (triangle-count w) (sym (c .params-of .ensures) ∙ f .params)) (corners-laid w) (triangles-laid w)
+    Parses.read (f .frame) (reads-all w (c .before .before .if1 .left)) (frame-is (c .params-of .result) _ _ (f .frame) (corner-count w) (triangle-count w) (c .params-of .ensures (f .frame .params) (f .params))) (corners-laid w) (triangles-laid w)
 
 pub read-spec : {M : Type 1} → statement M
 read-spec =

@@ -3,6 +3,7 @@ use Prim.Native.Nat.{ℕ, _*_}
 use native.Mathlib.Omega.{arith}
 use lib.ListN.{length-replicate}
 use Rattle.measure.specs.Float.{bits}
+use Rattle.gridtext.specs.Text.{mostCornerLines, mostTriangleLines}
 use Rattle.gridtext.specs.Unpacked.{workWords}
 use Rattle.gridtext.proofs.Filling.{front-in, front-counted}
 use Rattle.gridtext.proofs.Unpacking.{unpacked-input, corner-room, triangle-room}
@@ -32,65 +33,62 @@ triples-requires c κs = let r = triangle-room _ _ _ _ (c .before .before .befor
 triples-requires-2 : tie.Need-triples-requires-2
 triples-requires-2 c κs = let r = triangle-room _ _ _ _ (c .before .before .before .before .before .before .before .before .before .before .pre .0 .1) in (r .0, r .1, omega arith)
 
-params-of-requires : tie.Need-params-of-requires
-params-of-requires c κs = search needs
-
 array-share-prefix-x : tie.Need-array-share-prefix-x
-array-share-prefix-x c = front-in (c .before .before .before .before .before .before .before .before .before .before .before .before .args .read .corners) 128 (bits 0) _ _ (c .before .before .before .before .before .before .before .positions .ensures) (omega (arith, corner-room _ _ _ _ (c .before .before .before .before .before .before .before .before .before .before .before .before .pre .0 .1) .0))
+array-share-prefix-x c = front-in (c .before .before .before .before .before .before .before .before .before .before .before .args .read .corners) mostCornerLines (bits 0) _ _ (c .before .before .before .before .before .before .positions .ensures) (omega (arith, corner-room _ _ _ _ (c .before .before .before .before .before .before .before .before .before .before .before .pre .0 .1) .0))
 
 slice-aggregate-label-frame : tie.Need-slice-aggregate-label-frame
-slice-aggregate-label-frame c = front-counted _ 128 (bits 0) _ _ (c .before .before .before .before .before .before .before .before .positions .ensures)
+slice-aggregate-label-frame c = front-counted _ mostCornerLines (bits 0) _ _ (c .before .before .before .before .before .before .before .positions .ensures)
 
 array-share-prefix-y : tie.Need-array-share-prefix-y
-array-share-prefix-y c = front-in (c .before .before .before .before .before .before .before .before .before .before .before .before .before .args .read .corners) 128 (bits 0) _ _ (c .before .before .before .before .before .before .before .positions2 .ensures) (omega (arith, corner-room _ _ _ _ (c .before .before .before .before .before .before .before .before .before .before .before .before .before .pre .0 .1) .0))
+array-share-prefix-y c = front-in (c .before .before .before .before .before .before .before .before .before .before .before .before .args .read .corners) mostCornerLines (bits 0) _ _ (c .before .before .before .before .before .before .positions2 .ensures) (omega (arith, corner-room _ _ _ _ (c .before .before .before .before .before .before .before .before .before .before .before .before .pre .0 .1) .0))
 
 slice-aggregate-label-frame-2 : tie.Need-slice-aggregate-label-frame-2
-slice-aggregate-label-frame-2 c = front-counted _ 128 (bits 0) _ _ (c .before .before .before .before .before .before .before .before .positions2 .ensures)
+slice-aggregate-label-frame-2 c = front-counted _ mostCornerLines (bits 0) _ _ (c .before .before .before .before .before .before .before .positions2 .ensures)
 
 mul-angles : tie.Need-mul-angles
-mul-angles c = omega (arith, corner-room _ _ _ _ (c .before .before .before .before .before .before .before .before .before .before .before .before .before .before .pre .0 .1) .0)
+mul-angles c = omega (arith, corner-room _ _ _ _ (c .before .before .before .before .before .before .before .before .before .before .before .before .before .pre .0 .1) .0)
 
 array-share-prefix-angles : tie.Need-array-share-prefix-angles
-array-share-prefix-angles c = front-in (2 * c .before .before .before .before .before .before .before .before .before .before .before .before .before .before .args .read .corners) 256 (bits 0) _ _ (c .before .before .before .before .before .before .before .slots .ensures) (omega (arith, corner-room _ _ _ _ (c .before .before .before .before .before .before .before .before .before .before .before .before .before .before .pre .0 .1) .0))
+array-share-prefix-angles c = front-in (2 * c .before .before .before .before .before .before .before .before .before .before .before .before .before .args .read .corners) (2 * mostCornerLines) (bits 0) _ _ (c .before .before .before .before .before .before .slots .ensures) (omega (arith, corner-room _ _ _ _ (c .before .before .before .before .before .before .before .before .before .before .before .before .before .pre .0 .1) .0))
 
 slice-aggregate-label-frame-3 : tie.Need-slice-aggregate-label-frame-3
-slice-aggregate-label-frame-3 c = front-counted _ 256 (bits 0) _ _ (c .before .before .before .before .before .before .before .before .slots .ensures)
+slice-aggregate-label-frame-3 c = front-counted _ (2 * mostCornerLines) (bits 0) _ _ (c .before .before .before .before .before .before .before .slots .ensures)
 
 mul-marks : tie.Need-mul-marks
-mul-marks c = omega (arith, corner-room _ _ _ _ (c .before .before .before .before .before .before .before .before .before .before .before .before .before .before .before .pre .0 .1) .0)
+mul-marks c = omega (arith, corner-room _ _ _ _ (c .before .before .before .before .before .before .before .before .before .before .before .before .before .before .pre .0 .1) .0)
 
 array-share-prefix-marks : tie.Need-array-share-prefix-marks
-array-share-prefix-marks c = front-in (2 * c .before .before .before .before .before .before .before .before .before .before .before .before .before .before .before .args .read .corners) 256 0 _ _ (c .before .before .before .before .before .before .before .marks .ensures) (omega (arith, corner-room _ _ _ _ (c .before .before .before .before .before .before .before .before .before .before .before .before .before .before .before .pre .0 .1) .0))
+array-share-prefix-marks c = front-in (2 * c .before .before .before .before .before .before .before .before .before .before .before .before .before .before .args .read .corners) (2 * mostCornerLines) 0 _ _ (c .before .before .before .before .before .before .marks .ensures) (omega (arith, corner-room _ _ _ _ (c .before .before .before .before .before .before .before .before .before .before .before .before .before .before .pre .0 .1) .0))
 
 slice-aggregate-label-frame-4 : tie.Need-slice-aggregate-label-frame-4
-slice-aggregate-label-frame-4 c = front-counted _ 256 0 _ _ (c .before .before .before .before .before .before .before .before .marks .ensures)
+slice-aggregate-label-frame-4 c = front-counted _ (2 * mostCornerLines) 0 _ _ (c .before .before .before .before .before .before .before .marks .ensures)
 
 mul-spreads : tie.Need-mul-spreads
-mul-spreads c = omega (arith, corner-room _ _ _ _ (c .before .before .before .before .before .before .before .before .before .before .before .before .before .before .before .before .pre .0 .1) .0)
+mul-spreads c = omega (arith, corner-room _ _ _ _ (c .before .before .before .before .before .before .before .before .before .before .before .before .before .before .before .pre .0 .1) .0)
 
 array-share-prefix-spreads : tie.Need-array-share-prefix-spreads
-array-share-prefix-spreads c = front-in (2 * c .before .before .before .before .before .before .before .before .before .before .before .before .before .before .before .before .args .read .corners) 256 (bits 0) _ _ (c .before .before .before .before .before .before .before .slots2 .ensures) (omega (arith, corner-room _ _ _ _ (c .before .before .before .before .before .before .before .before .before .before .before .before .before .before .before .before .pre .0 .1) .0))
+array-share-prefix-spreads c = front-in (2 * c .before .before .before .before .before .before .before .before .before .before .before .before .before .before .before .args .read .corners) (2 * mostCornerLines) (bits 0) _ _ (c .before .before .before .before .before .before .slots2 .ensures) (omega (arith, corner-room _ _ _ _ (c .before .before .before .before .before .before .before .before .before .before .before .before .before .before .before .pre .0 .1) .0))
 
 slice-aggregate-label-frame-5 : tie.Need-slice-aggregate-label-frame-5
-slice-aggregate-label-frame-5 c = front-counted _ 256 (bits 0) _ _ (c .before .before .before .before .before .before .before .before .slots2 .ensures)
+slice-aggregate-label-frame-5 c = front-counted _ (2 * mostCornerLines) (bits 0) _ _ (c .before .before .before .before .before .before .before .slots2 .ensures)
 
 mul-named : tie.Need-mul-named
-mul-named c = omega (arith, triangle-room _ _ _ _ (c .before .before .before .before .before .before .before .before .before .before .before .before .before .before .before .before .before .pre .0 .1) .0)
+mul-named c = omega (arith, triangle-room _ _ _ _ (c .before .before .before .before .before .before .before .before .before .before .before .before .before .before .before .before .pre .0 .1) .0)
 
 array-share-prefix-named : tie.Need-array-share-prefix-named
-array-share-prefix-named c = front-in (3 * c .before .before .before .before .before .before .before .before .before .before .before .before .before .before .before .before .before .args .read .triangles) 768 0 _ _ (c .before .before .before .before .before .before .before .triples .ensures) (omega (arith, triangle-room _ _ _ _ (c .before .before .before .before .before .before .before .before .before .before .before .before .before .before .before .before .before .pre .0 .1) .0))
+array-share-prefix-named c = front-in (3 * c .before .before .before .before .before .before .before .before .before .before .before .before .before .before .before .before .args .read .triangles) (3 * mostTriangleLines) 0 _ _ (c .before .before .before .before .before .before .triples .ensures) (omega (arith, triangle-room _ _ _ _ (c .before .before .before .before .before .before .before .before .before .before .before .before .before .before .before .before .pre .0 .1) .0))
 
 slice-aggregate-label-frame-6 : tie.Need-slice-aggregate-label-frame-6
-slice-aggregate-label-frame-6 c = front-counted _ 768 0 _ _ (c .before .before .before .before .before .before .before .before .triples .ensures)
+slice-aggregate-label-frame-6 c = front-counted _ (3 * mostTriangleLines) 0 _ _ (c .before .before .before .before .before .before .before .triples .ensures)
 
 mul-twins : tie.Need-mul-twins
-mul-twins c = omega (arith, triangle-room _ _ _ _ (c .before .before .before .before .before .before .before .before .before .before .before .before .before .before .before .before .before .before .pre .0 .1) .0)
+mul-twins c = omega (arith, triangle-room _ _ _ _ (c .before .before .before .before .before .before .before .before .before .before .before .before .before .before .before .before .before .pre .0 .1) .0)
 
 array-share-prefix-twins : tie.Need-array-share-prefix-twins
-array-share-prefix-twins c = front-in (3 * c .before .before .before .before .before .before .before .before .before .before .before .before .before .before .before .before .before .before .args .read .triangles) 768 0 _ _ (c .before .before .before .before .before .before .before .triples2 .ensures) (omega (arith, triangle-room _ _ _ _ (c .before .before .before .before .before .before .before .before .before .before .before .before .before .before .before .before .before .before .pre .0 .1) .0))
+array-share-prefix-twins c = front-in (3 * c .before .before .before .before .before .before .before .before .before .before .before .before .before .before .before .before .before .args .read .triangles) (3 * mostTriangleLines) 0 _ _ (c .before .before .before .before .before .before .triples2 .ensures) (omega (arith, triangle-room _ _ _ _ (c .before .before .before .before .before .before .before .before .before .before .before .before .before .before .before .before .before .pre .0 .1) .0))
 
 slice-aggregate-label-frame-7 : tie.Need-slice-aggregate-label-frame-7
-slice-aggregate-label-frame-7 c = front-counted _ 768 0 _ _ (c .before .before .before .before .before .before .before .before .triples2 .ensures)
+slice-aggregate-label-frame-7 c = front-counted _ (3 * mostTriangleLines) 0 _ _ (c .before .before .before .before .before .before .before .triples2 .ensures)
 
 slice-aggregate-label-frame-8 : tie.Need-slice-aggregate-label-frame-8
 slice-aggregate-label-frame-8 c = search needs
@@ -106,10 +104,10 @@ same-length-2 c = search needs
 
 returns : tie.Need-returns
 returns c =
-    let s = c .before .before .before .before .before .before .before .before .before .before .before .before .before .before .before .before .before .before .before .before .before .before .before .before .before .before .before .before in
+    let s = c .before .before .before .before .before .before .before .before .before .before .before .before .before .before .before .before .before .before .before .before .before .before .before .before .before .before .before in
     λ f standing.
     labels f (standing .within) _ (s .args .components .now) (s .args .entries .now) (omega (arith, length-replicate {A = ℕ} workWords 0)) (s .pre .1) (s .pre .2) _
-    (unpacked-input _ _ _ f standing _ _ _ _ _ _ _ _ (c .before .before .before .before .before .before .before .before .before .before .before .before .before .before .before .before .before .before .before .before .before .before .before .positions .ensures) (c .before .before .before .before .before .before .before .before .before .before .before .before .before .before .before .before .before .before .before .before .before .before .positions2 .ensures) (c .before .before .before .before .before .before .before .before .before .before .before .before .before .before .before .before .before .before .before .before .before .slots .ensures) (c .before .before .before .before .before .before .before .before .before .before .before .before .before .before .before .before .before .before .before .before .marks .ensures) (c .before .before .before .before .before .before .before .before .before .before .before .before .before .before .before .before .before .before .before .slots2 .ensures) (c .before .before .before .before .before .before .before .before .before .before .before .before .before .before .before .before .before .before .triples .ensures) (c .before .before .before .before .before .before .before .before .before .before .before .before .before .before .before .before .before .triples2 .ensures) (c .before .before .before .before .before .before .before .before .before .before .before .before .before .before .before .before .params-of .ensures)) _ (c .before .before .before .before .before .label-frame .ensures)
+    (unpacked-input _ _ _ f standing _ _ _ _ _ _ _ (c .before .before .before .before .before .before .before .before .before .before .before .before .before .before .before .before .before .before .before .before .before .before .positions .ensures) (c .before .before .before .before .before .before .before .before .before .before .before .before .before .before .before .before .before .before .before .before .before .positions2 .ensures) (c .before .before .before .before .before .before .before .before .before .before .before .before .before .before .before .before .before .before .before .before .slots .ensures) (c .before .before .before .before .before .before .before .before .before .before .before .before .before .before .before .before .before .before .before .marks .ensures) (c .before .before .before .before .before .before .before .before .before .before .before .before .before .before .before .before .before .before .slots2 .ensures) (c .before .before .before .before .before .before .before .before .before .before .before .before .before .before .before .before .before .triples .ensures) (c .before .before .before .before .before .before .before .before .before .before .before .before .before .before .before .before .triples2 .ensures)) _ (c .before .before .before .before .before .label-frame .ensures)
 
 pub label-lines-spec : {M : Type 1} → statement M
 label-lines-spec =
@@ -122,7 +120,6 @@ label-lines-spec =
     slots-requires-2
     triples-requires
     triples-requires-2
-    params-of-requires
     array-share-prefix-x
     slice-aggregate-label-frame
     array-share-prefix-y

@@ -4,6 +4,7 @@ use Prim.Native.Nat.{_-_}
 use native.Mathlib.Omega.{arith}
 use borrow.Author.Tests.{not-true, not-false}
 use lib.ListN.{length}
+use Rattle.gridtext.specs.Rows.{mostWords}
 use Rattle.gridtext.specs.Read.{LineAt}
 use Rattle.gridtext.proofs.Fields.{pair-there, pair-not, pair-within}
 use Rattle.gridtext.proofs.Taking.{Passed, passed-none, no-letter, field-missing, room-more, passed-more, passed-all}
@@ -12,7 +13,7 @@ use Rattle.gridtext.proofs.inner.line.line_at.Statement.{statement}
 use Rattle.gridtext.proofs.inner.line.line_at.Tie as tie
 
 abbrev Inv-loop : tie.InvT-loop
-Inv-loop text at sort words₀ count next₀ n₀ i₀ words next n i = Passed text sort at words next n i × (length words ≡ 8)
+Inv-loop text at sort words₀ count next₀ n₀ i₀ words next n i = Passed text sort at words next n i × (length words ≡ mostWords)
 
 abbrev μ-loop : tie.MeasureT-loop
 μ-loop text at sort words₀ count next₀ n₀ i₀ words next n i = count - i
@@ -62,8 +63,8 @@ returns-2 c =
     let h = rw (c .before .before .before .before .before .before .before .fields .ensures) at (c .before .before .before .before .before .loop-test .taken) in
     (l .1, LineAt.nothing (field-missing (l .0) h (rw (c .before .before .before .before .before .before .before .fields .ensures) at (c .before .before .before .end-of .ensures)) (rw (c .before .before .before .before .kind-at .ensures, c .enum-told .given .1) at (c .before .before .field-at .ensures))))
 
-put-requires : tie.Need-put-requires Inv-loop μ-loop
-put-requires c κs =
+put-words-requires : tie.Need-put-words-requires Inv-loop μ-loop
+put-words-requires c κs =
     let l = c .before .before .before .before .before .before .before .before .loop .inv in
     let h = rw (c .before .before .before .before .before .before .before .before .before .fields .ensures) at (c .before .before .before .before .before .before .before .loop-test .taken) in
     (l .1, room-more (l .0) h (rw (c .before .before .before .before .before .before .kind-at .ensures, c .before .before .found .given .1) at (c .before .before .before .before .field-at .ensures)))
@@ -78,7 +79,7 @@ loop-again : tie.Need-loop-again Inv-loop μ-loop
 loop-again c =
     let l = c .before .before .before .before .before .before .before .before .before .loop .inv in
     let h = rw (c .before .before .before .before .before .before .before .before .before .before .fields .ensures) at (c .before .before .before .before .before .before .before .before .loop-test .taken) in
-    let p = c .put .ensures in
+    let p = c .put-words .ensures in
     (passed-more (l .0) h _ (rw (c .before .before .before .before .before .before .before .before .before .before .fields .ensures) at (c .before .before .before .before .before .before .end-of .ensures)) (rw (c .before .before .before .before .before .before .before .kind-at .ensures, c .before .before .before .found .given .1) at (c .before .before .before .before .before .field-at .ensures)) (p .1) (p .2), p .0)
 
 returns-3 : tie.Need-returns-3 Inv-loop μ-loop
@@ -106,7 +107,7 @@ line-at-spec =
     enum-known-found
     enum-told
     returns-2
-    put-requires
+    put-words-requires
     add-i
     loop-less
     loop-again

@@ -11,11 +11,11 @@ put-field-requires c κs =
     let s = c .before .before in
     room-first (s .args .out .now) (s .args .at) (32 ∷ decimalOf (s .args .a)) (10 ∷ []) (field-feed (decimalOf (s .args .a))) (s .pre)
 
-slice-aggregate-put : tie.Need-slice-aggregate-put
-slice-aggregate-put c = search needs
+slice-aggregate-put-bytes : tie.Need-slice-aggregate-put-bytes
+slice-aggregate-put-bytes c = search needs
 
-put-requires : tie.Need-put-requires
-put-requires c κs =
+put-bytes-requires : tie.Need-put-bytes-requires
+put-bytes-requires c κs =
     let s = c .before .before .before .before .before .before .before in
     room-next (10 ∷ []) (c .before .before .before .before .put-field .ensures) (field-feed (decimalOf (s .args .a))) (s .pre)
 
@@ -25,7 +25,7 @@ same-length c = search needs
 returns : tie.Need-returns
 returns c =
     let s = c .before .before .before .before .before .before .before .before .before .before in
-    printed-as (field-feed (decimalOf (s .args .a))) (printed-then (c .before .before .before .before .before .before .before .put-field .ensures) (c .before .before .put .ensures))
+    printed-as (field-feed (decimalOf (s .args .a))) (printed-then (c .before .before .before .before .before .before .before .put-field .ensures) (c .before .before .put-bytes .ensures))
 
 pub end-one-spec : {M : Type 1} → statement M
-end-one-spec = tie.close (tie.spec put-field-requires slice-aggregate-put put-requires same-length returns)
+end-one-spec = tie.close (tie.spec put-field-requires slice-aggregate-put-bytes put-bytes-requires same-length returns)

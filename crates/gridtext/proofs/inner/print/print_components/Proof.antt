@@ -26,24 +26,24 @@ has-room c =
     let s = c .before .before in
     answer-room (s .args .components .now) (s .args .entries .now) (λ k. omega (arith, c .before .shared-slice-known .given k)) (λ k. omega (arith, c .shared-slice-known2 .given k)) (s .args .count) (s .args .out .now) (omega (arith, s .fits .count)) (s .pre)
 
-slice-aggregate-put : tie.Need-slice-aggregate-put Inv-loop μ-loop
-slice-aggregate-put c = search needs
+slice-aggregate-put-bytes : tie.Need-slice-aggregate-put-bytes Inv-loop μ-loop
+slice-aggregate-put-bytes c = search needs
 
-put-requires : tie.Need-put-requires Inv-loop μ-loop
-put-requires c κs =
+put-bytes-requires : tie.Need-put-bytes-requires Inv-loop μ-loop
+put-bytes-requires c κs =
     let s = c .before .before .before .before .before in
     room-first (s .args .out .now) 0 countWord ((lastFields (decimalOf (s .args .count) ∷ [])) ++ (joined (componentPiece (s .args .components .now) (s .args .entries .now)) (s .args .count))) (answer-first (s .pre .holds)) (has-room (c .before .before .before))
 
 end-one-requires : tie.Need-end-one-requires Inv-loop μ-loop
 end-one-requires c κs =
     let s = c .before .before .before .before .before .before .before .before .before in
-    let m = c .before .before .before .put in
+    let m = c .before .before .before .put-bytes in
     room-first (m .last .0) (m .result) (lastFields (decimalOf (s .args .count) ∷ [])) (joined (componentPiece (s .args .components .now) (s .args .entries .now)) (s .args .count)) refl (room-next ((lastFields (decimalOf (s .args .count) ∷ [])) ++ (joined (componentPiece (s .args .components .now) (s .args .entries .now)) (s .args .count))) (m .ensures) (answer-first (s .pre .holds)) (has-room (c .before .before .before .before .before .before .before)))
 
 loop-holds : tie.Need-loop-holds Inv-loop μ-loop
 loop-holds c =
     let s = c .before .before .before .before .before .before .before .before .before .before .before .before in
-    let p = printed-then (c .before .before .before .before .before .before .put .ensures) (c .before .before .end-one .ensures) in
+    let p = printed-then (c .before .before .before .before .before .before .put-bytes .ensures) (c .before .before .end-one .ensures) in
     (omega arith, joined-none (componentPiece (s .args .components .now) (s .args .entries .now)) (c .before .before .end-one .last .0) (c .before .before .end-one .result) (p .within), room-next (joined (componentPiece (s .args .components .now) (s .args .entries .now)) (s .args .count)) p (answer-parts (s .pre .holds)) (has-room (c .before .before .before .before .before .before .before .before .before .before)))
 
 put-component-requires : tie.Need-put-component-requires Inv-loop μ-loop
@@ -73,7 +73,7 @@ returns c = λ answer h.
     let s = c .before .before .before .before .before .before .before .before .before .before .before .before .before .before in
     let l = c .before .loop in
     let e : l .j ≡ s .args .count = omega arith in
-    printed-as (answer-parts h) (printed-then (printed-then (c .before .before .before .before .before .before .before .before .put .ensures) (c .before .before .before .before .end-one .ensures)) (rw e at (l .inv .1)))
+    printed-as (answer-parts h) (printed-then (printed-then (c .before .before .before .before .before .before .before .before .put-bytes .ensures) (c .before .before .before .before .end-one .ensures)) (rw e at (l .inv .1)))
 
 pub print-components-spec : {M : Type 1} → statement M
-print-components-spec = tie.close (tie.spec Inv-loop μ-loop slice-aggregate-put put-requires end-one-requires loop-holds put-component-requires add-j loop-less loop-again same-length returns)
+print-components-spec = tie.close (tie.spec Inv-loop μ-loop slice-aggregate-put-bytes put-bytes-requires end-one-requires loop-holds put-component-requires add-j loop-less loop-again same-length returns)

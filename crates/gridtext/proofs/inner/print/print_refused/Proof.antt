@@ -18,12 +18,12 @@ number-requires c κs = search needs
 place-requires : tie.Need-place-requires
 place-requires c κs = search needs
 
-slice-aggregate-put : tie.Need-slice-aggregate-put
-slice-aggregate-put c = search needs
+slice-aggregate-put-bytes : tie.Need-slice-aggregate-put-bytes
+slice-aggregate-put-bytes c = search needs
 
-put-requires : tie.Need-put-requires
+put-bytes-requires : tie.Need-put-bytes-requires
 unfolding refusedText numbersLine
-put-requires c κs =
+put-bytes-requires c κs =
     let s = c .before .before .before .before .before in
     room-first (s .args .out .now) 0 (114 ∷ 101 ∷ 102 ∷ 117 ∷ 115 ∷ 101 ∷ 100 ∷ []) (lastFields (decimalOf (numberOf (s .args .why)) ∷ decimalOf (placeOf (s .args .why)) ∷ [])) refl (refused-room (s .args .out .now) (s .args .why) (omega (arith, c .before .before .before .number .ok, c .before .before .before .number .ensures)) (omega (arith, c .before .before .place .ok, c .before .before .place .ensures)) (s .pre))
 
@@ -31,7 +31,7 @@ end-two-requires : tie.Need-end-two-requires
 unfolding refusedText numbersLine
 end-two-requires c κs =
     let s = c .before .before .before .before .before .before .before .before .before in
-    rw (c .before .before .before .before .before .before .before .number .ensures, c .before .before .before .before .before .before .place .ensures) (room-next (lastFields (decimalOf (numberOf (s .args .why)) ∷ decimalOf (placeOf (s .args .why)) ∷ [])) (c .before .before .before .put .ensures) refl (refused-room (s .args .out .now) (s .args .why) (omega (arith, c .before .before .before .before .before .before .before .number .ok, c .before .before .before .before .before .before .before .number .ensures)) (omega (arith, c .before .before .before .before .before .before .place .ok, c .before .before .before .before .before .before .place .ensures)) (s .pre)))
+    rw (c .before .before .before .before .before .before .before .number .ensures, c .before .before .before .before .before .before .place .ensures) (room-next (lastFields (decimalOf (numberOf (s .args .why)) ∷ decimalOf (placeOf (s .args .why)) ∷ [])) (c .before .before .before .put-bytes .ensures) refl (refused-room (s .args .out .now) (s .args .why) (omega (arith, c .before .before .before .before .before .before .before .number .ok, c .before .before .before .before .before .before .before .number .ensures)) (omega (arith, c .before .before .before .before .before .before .place .ok, c .before .before .before .before .before .before .place .ensures)) (s .pre)))
 
 same-length : tie.Need-same-length
 same-length c = search needs
@@ -40,7 +40,7 @@ returns : tie.Need-returns
 unfolding refusedText numbersLine
 returns c =
     let e = c .before .before .end-two .ensures in
-    printed-then (c .before .before .before .before .before .before .put .ensures) (rw (c .before .before .before .before .before .before .before .before .before .before .number .ensures, c .before .before .before .before .before .before .before .before .before .place .ensures) at e)
+    printed-then (c .before .before .before .before .before .before .put-bytes .ensures) (rw (c .before .before .before .before .before .before .before .before .before .before .number .ensures, c .before .before .before .before .before .before .before .before .before .place .ensures) at e)
 
 pub print-refused-spec : {M : Type 1} → statement M
-print-refused-spec = tie.close (tie.spec number-requires place-requires slice-aggregate-put put-requires end-two-requires same-length returns)
+print-refused-spec = tie.close (tie.spec number-requires place-requires slice-aggregate-put-bytes put-bytes-requires end-two-requires same-length returns)

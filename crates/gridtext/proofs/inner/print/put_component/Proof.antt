@@ -39,11 +39,11 @@ mul-holes c = search needs
 shared-slice-read-holes : tie.Need-shared-slice-read-holes
 shared-slice-read-holes c = search needs
 
-slice-aggregate-put : tie.Need-slice-aggregate-put
-slice-aggregate-put c = search needs
+slice-aggregate-put-bytes : tie.Need-slice-aggregate-put-bytes
+slice-aggregate-put-bytes c = search needs
 
-put-requires : tie.Need-put-requires
-put-requires c κs =
+put-bytes-requires : tie.Need-put-bytes-requires
+put-bytes-requires c κs =
     let s = c .before .before .before .before .before .before .before .before .before in
     let x = s .args .components .now in
     let y = s .args .entries .now in
@@ -56,7 +56,7 @@ end-three-requires c κs =
     let x = s .args .components .now in
     let y = s .args .entries .now in
     let j = s .args .j in
-    let m = c .before .before .before .put in
+    let m = c .before .before .before .put-bytes in
     rw (c .before .before .before .before .before .before .before .before .before .wide .ensures) (room-first (m .last .0) (m .result) (componentFields x j) (entryLines (componentAt x y j)) refl (room-next (componentFields x j ++ (entryLines (componentAt x y j))) (m .ensures) (component-first x y j (s .pre .0)) (s .pre .1)))
 
 wide-requires-2 : tie.Need-wide-requires-2
@@ -72,7 +72,7 @@ put-entries-requires c κs =
     let y = s .args .entries .now in
     let j = s .args .j in
     let f = rw (c .before .before .before .before .before .before .before .before .before .before .before .before .before .before .before .wide .ensures) at (c .before .before .before .before .before .end-three .ensures) in
-    rw (c .before .before .wide2 .ensures, c .before .wide3 .ensures, c .before .before .before .before .before .before .before .before .before .before .before .before .before .before .before .wide .ensures) (s .pre .0 .all, room-next (entryLines (componentAt x y j)) (printed-then (c .before .before .before .before .before .before .before .before .before .put .ensures) f) (component-parts x y j (s .pre .0)) (s .pre .1))
+    rw (c .before .before .wide2 .ensures, c .before .wide3 .ensures, c .before .before .before .before .before .before .before .before .before .before .before .before .before .before .before .wide .ensures) (s .pre .0 .all, room-next (entryLines (componentAt x y j)) (printed-then (c .before .before .before .before .before .before .before .before .before .put-bytes .ensures) f) (component-parts x y j (s .pre .0)) (s .pre .1))
 
 same-length : tie.Need-same-length
 same-length c = search needs
@@ -85,7 +85,7 @@ returns c =
     let j = s .args .j in
     let f = rw (c .before .before .before .before .before .before .before .before .before .before .before .before .before .before .before .before .before .before .wide .ensures) at (c .before .before .before .before .before .before .before .before .end-three .ensures) in
     let g = rw (c .before .before .before .before .before .wide2 .ensures, c .before .before .before .before .wide3 .ensures, c .before .before .before .before .before .before .before .before .before .before .before .before .before .before .before .before .before .before .wide .ensures) at (c .before .before .put-entries .ensures) in
-    printed-as (component-parts x y j (s .pre .0)) (printed-then (printed-then (c .before .before .before .before .before .before .before .before .before .before .before .before .put .ensures) f) g)
+    printed-as (component-parts x y j (s .pre .0)) (printed-then (printed-then (c .before .before .before .before .before .before .before .before .before .before .before .before .put-bytes .ensures) f) g)
 
 pub put-component-spec : {M : Type 1} → statement M
-put-component-spec = tie.close (tie.spec wide-requires mul-place mul-before shared-slice-read-before add-count mul-count shared-slice-read-count add-holes mul-holes shared-slice-read-holes slice-aggregate-put put-requires end-three-requires wide-requires-2 wide-requires-3 put-entries-requires same-length returns)
+put-component-spec = tie.close (tie.spec wide-requires mul-place mul-before shared-slice-read-before add-count mul-count shared-slice-read-count add-holes mul-holes shared-slice-read-holes slice-aggregate-put-bytes put-bytes-requires end-three-requires wide-requires-2 wide-requires-3 put-entries-requires same-length returns)

@@ -10,8 +10,8 @@ enum-told c = search needs
 hex-at-requires : tie.Need-hex-at-requires
 hex-at-requires c κs = search needs
 
-one-requires : tie.Need-one-requires
-one-requires c κs = search needs
+one-word-requires : tie.Need-one-word-requires
+one-word-requires c κs = search needs
 
 enum-told-2 : tie.Need-enum-told-2
 enum-told-2 c = search needs
@@ -19,8 +19,8 @@ enum-told-2 c = search needs
 decimal-at-requires : tie.Need-decimal-at-requires
 decimal-at-requires c κs = search needs
 
-one-requires-2 : tie.Need-one-requires-2
-one-requires-2 c κs = search needs
+one-word-requires-2 : tie.Need-one-word-requires-2
+one-word-requires-2 c κs = search needs
 
 enum-told-3 : tie.Need-enum-told-3
 enum-told-3 c = search needs
@@ -35,10 +35,10 @@ twin-at-requires : tie.Need-twin-at-requires
 twin-at-requires c κs = search needs
 
 returns : tie.Need-returns
-returns c = rw (c .before .before .enum-told .given .1, c .one .ensures) (hex-field (c .before .hex-at .result) (c .before .hex-at .ensures))
+returns c = rw (c .before .before .enum-told .given .1, c .one-word .ensures) (hex-field (c .before .hex-at .result) (c .before .hex-at .ensures))
 
 returns-2 : tie.Need-returns-2
-returns-2 c = rw (c .before .before .enum-told2 .given .1, c .one2 .ensures) (decimal-field (c .before .decimal-at .result) (c .before .decimal-at .ensures))
+returns-2 c = rw (c .before .before .enum-told2 .given .1, c .one-word2 .ensures) (decimal-field (c .before .decimal-at .result) (c .before .decimal-at .ensures))
 
 returns-3 : tie.Need-returns-3
 returns-3 c = rw (c .before .enum-told3 .given .1) (c .spread-at .ensures)
@@ -52,10 +52,10 @@ field-at-spec =
     (tie.spec
     enum-told
     hex-at-requires
-    one-requires
+    one-word-requires
     enum-told-2
     decimal-at-requires
-    one-requires-2
+    one-word-requires-2
     enum-told-3
     spread-at-requires
     enum-told-4

@@ -34,19 +34,16 @@ module _ (text : List ℕ) (at a b : ℕ) where
       (λ rest p. let g : getD (drop at text) 1 0 ≡ b = ap (λ (l : List ℕ). getD l 1 0) p in eqb-false (getD text (at + 1) 0) b q (rw getD-drop at g))
 
 returns : tie.Need-returns
-returns c = short (c .before .args .text .now) (c .before .args .at) (c .before .args .first) (c .before .args .second) (omega arith)
+returns c = let a = c .before .args in short (a .text .now) (a .at) (a .first) (a .second) (omega arith)
 
-sub-if2 : tie.Need-sub-if2
-sub-if2 c = search needs
+shared-slice-read-if2 : tie.Need-shared-slice-read-if2
+shared-slice-read-if2 c = search needs
 
 returns-2 : tie.Need-returns-2
-returns-2 c = short (c .before .before .args .text .now) (c .before .before .args .at) (c .before .before .args .first) (c .before .before .args .second) (omega arith)
+returns-2 c = let a = c .before .before .before .args in other-first (a .text .now) (a .at) (a .first) (a .second) (c .if2 .taken)
 
-shared-slice-read-if3 : tie.Need-shared-slice-read-if3
-shared-slice-read-if3 c = search needs
-
-returns-3 : tie.Need-returns-3
-returns-3 c = other-first (c .before .before .before .before .args .text .now) (c .before .before .before .before .args .at) (c .before .before .before .before .args .first) (c .before .before .before .before .args .second) (c .if3 .taken)
+add-if3 : tie.Need-add-if3
+add-if3 c = search needs
 
 add-result : tie.Need-add-result
 add-result c = search needs
@@ -54,18 +51,13 @@ add-result c = search needs
 shared-slice-read-result : tie.Need-shared-slice-read-result
 shared-slice-read-result c = search needs
 
+returns-3 : tie.Need-returns-3
+returns-3 c =
+    let a = c .before .before .before .before .before .args in
+    by-second (a .text .now) (a .at) (a .first) (a .second) (omega arith) (c .before .before .if2 .left) _ refl
+
 returns-4 : tie.Need-returns-4
-returns-4 c = by-second (c .before .before .before .before .before .args .text .now) (c .before .before .before .before .before .args .at) (c .before .before .before .before .before .args .first) (c .before .before .before .before .before .args .second) (omega arith) (c .before .if3 .left) _ refl
+returns-4 c = let a = c .before .before .before .before .args in short (a .text .now) (a .at) (a .first) (a .second) (omega arith)
 
 pub pair-at-spec : {M : Type 1} → statement M
-pair-at-spec =
-    tie.close
-    (tie.spec
-    returns
-    sub-if2
-    returns-2
-    shared-slice-read-if3
-    returns-3
-    add-result
-    shared-slice-read-result
-    returns-4)
+pair-at-spec = tie.close (tie.spec returns shared-slice-read-if2 returns-2 add-if3 add-result shared-slice-read-result returns-3 returns-4)

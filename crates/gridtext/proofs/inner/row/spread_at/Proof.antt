@@ -20,13 +20,13 @@ returns c = no-spread (rw (c .before .before .byte .ensures) at (pair-there (c .
 hex-at-requires : tie.Need-hex-at-requires
 hex-at-requires c κs = search needs
 
-two-requires : tie.Need-two-requires
-two-requires c κs = search needs
+marked-word-requires : tie.Need-marked-word-requires
+marked-word-requires c κs = search needs
 
 returns-2 : tie.Need-returns-2
-returns-2 c = rw (c .two .ensures) (spread-field (rw (c .before .before .before .before .byte .ensures) at (pair-not (c .before .before .before .pair-at .ensures) (c .before .before .if1 .left))) (c .before .hex-at .result) (c .before .hex-at .ensures))
+returns-2 c = rw (c .marked-word .ensures) (spread-field (rw (c .before .before .before .before .byte .ensures) at (pair-not (c .before .before .before .pair-at .ensures) (c .before .before .if1 .left))) (c .before .hex-at .result) (c .before .hex-at .ensures))
 
 pub spread-at-spec : {M : Type 1} → statement M
 spread-at-spec =
     tie.close
-    (tie.spec byte-requires pair-at-requires add-t7 returns hex-at-requires two-requires returns-2)
+    (tie.spec byte-requires pair-at-requires add-t7 returns hex-at-requires marked-word-requires returns-2)

@@ -20,11 +20,11 @@ returns c = no-twin (rw (c .before .before .byte .ensures) at (pair-there (c .be
 decimal-at-requires : tie.Need-decimal-at-requires
 decimal-at-requires c κs = search needs
 
-one-requires : tie.Need-one-requires
-one-requires c κs = search needs
+one-word-requires : tie.Need-one-word-requires
+one-word-requires c κs = search needs
 
 returns-2 : tie.Need-returns-2
-returns-2 c = rw (c .one .ensures) (twin-field (rw (c .before .before .before .before .byte .ensures) at (pair-not (c .before .before .before .pair-at .ensures) (c .before .before .if1 .left))) (c .before .decimal-at .result) (c .before .decimal-at .ensures))
+returns-2 c = rw (c .one-word .ensures) (twin-field (rw (c .before .before .before .before .byte .ensures) at (pair-not (c .before .before .before .pair-at .ensures) (c .before .before .if1 .left))) (c .before .decimal-at .result) (c .before .decimal-at .ensures))
 
 pub twin-at-spec : {M : Type 1} → statement M
 twin-at-spec =
@@ -35,5 +35,5 @@ twin-at-spec =
     add-t7
     returns
     decimal-at-requires
-    one-requires
+    one-word-requires
     returns-2)

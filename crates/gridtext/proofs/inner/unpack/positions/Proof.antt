@@ -7,19 +7,20 @@ use lib.ListN.{getD, drop, replicate, length-replicate}
 use borrow.Author.Needs.{needs}
 use Rattle.words.specs.Listing.{listing}
 use Rattle.measure.specs.Float.{bits}
+use Rattle.gridtext.specs.Text.{mostCornerLines}
 use Rattle.gridtext.specs.Unpacked.{positionAt}
 use Rattle.gridtext.proofs.Filling.{filled-none, filled-more}
 use Rattle.gridtext.proofs.inner.unpack.positions.Statement.{statement}
 use Rattle.gridtext.proofs.inner.unpack.positions.Tie as tie
 
 abbrev Inv-loop : tie.InvT-loop
-Inv-loop corners n start out₀ t₀ out t = (t ≤ n) × (out ≡ listing t (λ (t : ℕ). bits (getD corners (positionAt start t) 0)) ++ drop t (replicate 128 (bits 0)))
+Inv-loop corners n start out₀ t₀ out t = (t ≤ n) × (out ≡ listing t (λ (t : ℕ). bits (getD corners (positionAt start t) 0)) ++ drop t (replicate mostCornerLines (bits 0)))
 
 abbrev μ-loop : tie.MeasureT-loop
 μ-loop corners n start out₀ t₀ out t = n - t
 
 loop-holds : tie.Need-loop-holds Inv-loop μ-loop
-loop-holds c = (omega arith, filled-none _ (replicate 128 (bits 0)))
+loop-holds c = (omega arith, filled-none _ (replicate mostCornerLines (bits 0)))
 
 mul-float-of : tie.Need-mul-float-of Inv-loop μ-loop
 mul-float-of c = search needs
@@ -49,7 +50,7 @@ loop-less : tie.Need-loop-less Inv-loop μ-loop
 loop-less c = search needs
 
 loop-again : tie.Need-loop-again Inv-loop μ-loop
-loop-again c = let l = c .before .before .before .loop in (omega arith, filled-more (l .t) _ (replicate 128 (bits 0)) (l .out) _ (omega (arith, length-replicate 128 (bits 0), c .before .before .before .before .before .pre)) (l .inv .1) (c .float-of .ensures))
+loop-again c = let l = c .before .before .before .loop in (omega arith, filled-more (l .t) _ (replicate mostCornerLines (bits 0)) (l .out) _ (omega (arith, length-replicate mostCornerLines (bits 0), c .before .before .before .before .before .pre)) (l .inv .1) (c .float-of .ensures))
 
 returns : tie.Need-returns Inv-loop μ-loop
 returns c = let e : c .before .loop .t ≡ c .before .before .before .args .n = omega arith in rw e at (c .before .loop .inv .1)

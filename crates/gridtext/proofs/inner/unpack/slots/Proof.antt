@@ -7,19 +7,20 @@ use lib.ListN.{getD, drop, replicate, length-replicate}
 use borrow.Author.Needs.{needs}
 use Rattle.words.specs.Listing.{listing}
 use Rattle.measure.specs.Float.{bits}
+use Rattle.gridtext.specs.Text.{mostCornerLines}
 use Rattle.gridtext.specs.Unpacked.{slotAt}
 use Rattle.gridtext.proofs.Filling.{filled-none, filled-more}
 use Rattle.gridtext.proofs.inner.unpack.slots.Statement.{statement}
 use Rattle.gridtext.proofs.inner.unpack.slots.Tie as tie
 
 abbrev Inv-loop : tie.InvT-loop
-Inv-loop corners n start out₀ t₀ out t = (t ≤ 2 * n) × (out ≡ listing t (λ (t : ℕ). bits (getD corners (slotAt start t) 0)) ++ drop t (replicate 256 (bits 0)))
+Inv-loop corners n start out₀ t₀ out t = (t ≤ 2 * n) × (out ≡ listing t (λ (t : ℕ). bits (getD corners (slotAt start t) 0)) ++ drop t (replicate (2 * mostCornerLines) (bits 0)))
 
 abbrev μ-loop : tie.MeasureT-loop
 μ-loop corners n start out₀ t₀ out t = 2 * n - t
 
 loop-holds : tie.Need-loop-holds Inv-loop μ-loop
-loop-holds c = (omega arith, filled-none _ (replicate 256 (bits 0)))
+loop-holds c = (omega arith, filled-none _ (replicate (2 * mostCornerLines) (bits 0)))
 
 mul-loop : tie.Need-mul-loop Inv-loop μ-loop
 mul-loop c = search needs
@@ -58,7 +59,7 @@ loop-less : tie.Need-loop-less Inv-loop μ-loop
 loop-less c = search needs
 
 loop-again : tie.Need-loop-again Inv-loop μ-loop
-loop-again c = let l = c .before .before .before .loop in (omega arith, filled-more (l .t) _ (replicate 256 (bits 0)) (l .out) _ (omega (arith, length-replicate 256 (bits 0), c .before .before .before .before .before .pre)) (l .inv .1) (c .float-of .ensures))
+loop-again c = let l = c .before .before .before .loop in (omega arith, filled-more (l .t) _ (replicate (2 * mostCornerLines) (bits 0)) (l .out) _ (omega (arith, length-replicate (2 * mostCornerLines) (bits 0), c .before .before .before .before .before .pre)) (l .inv .1) (c .float-of .ensures))
 
 returns : tie.Need-returns Inv-loop μ-loop
 returns c = let e : c .before .loop .t ≡ 2 * c .before .before .before .args .n = omega arith in rw e at (c .before .loop .inv .1)

@@ -6,19 +6,20 @@ use native.Mathlib.Omega.{arith}
 use lib.ListN.{getD, drop, replicate, length-replicate}
 use borrow.Author.Needs.{needs}
 use Rattle.words.specs.Listing.{listing}
+use Rattle.gridtext.specs.Text.{mostTriangleLines}
 use Rattle.gridtext.specs.Unpacked.{tripleAt}
 use Rattle.gridtext.proofs.Filling.{filled-none, filled-more}
 use Rattle.gridtext.proofs.inner.unpack.triples.Statement.{statement}
 use Rattle.gridtext.proofs.inner.unpack.triples.Tie as tie
 
 abbrev Inv-loop : tie.InvT-loop
-Inv-loop triangles n start out₀ t₀ out t = (t ≤ 3 * n) × (out ≡ listing t (λ (t : ℕ). getD triangles (tripleAt start t) 0) ++ drop t (replicate 768 0))
+Inv-loop triangles n start out₀ t₀ out t = (t ≤ 3 * n) × (out ≡ listing t (λ (t : ℕ). getD triangles (tripleAt start t) 0) ++ drop t (replicate (3 * mostTriangleLines) 0))
 
 abbrev μ-loop : tie.MeasureT-loop
 μ-loop triangles n start out₀ t₀ out t = 3 * n - t
 
 loop-holds : tie.Need-loop-holds Inv-loop μ-loop
-loop-holds c = (omega arith, filled-none _ (replicate 768 0))
+loop-holds c = (omega arith, filled-none _ (replicate (3 * mostTriangleLines) 0))
 
 mul-loop : tie.Need-mul-loop Inv-loop μ-loop
 mul-loop c = search needs
@@ -51,7 +52,7 @@ loop-less : tie.Need-loop-less Inv-loop μ-loop
 loop-less c = search needs
 
 loop-again : tie.Need-loop-again Inv-loop μ-loop
-loop-again c = let l = c .before .before .loop in (omega arith, filled-more (l .t) _ (replicate 768 0) (l .out) _ (omega (arith, length-replicate {A = ℕ} 768 0, c .before .before .before .pre)) (l .inv .1) refl)
+loop-again c = let l = c .before .before .loop in (omega arith, filled-more (l .t) _ (replicate (3 * mostTriangleLines) 0) (l .out) _ (omega (arith, length-replicate {A = ℕ} (3 * mostTriangleLines) 0, c .before .before .before .pre)) (l .inv .1) refl)
 
 returns : tie.Need-returns Inv-loop μ-loop
 returns c = let e : c .before .loop .t ≡ 3 * c .before .before .args .n = omega arith in rw e at (c .before .loop .inv .1)

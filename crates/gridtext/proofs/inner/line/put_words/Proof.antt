@@ -1,4 +1,4 @@
--- `put` stores one word, or two, behind the first n.
+-- `put_words` stores one word, or two, behind the first n.
 use mathlib.Core.Path.{_≡_, _∙_}
 use mathlib.Core.List.{List, [], _∷_, _++_, append-assoc}
 use Prim.Native.Nat.{ℕ, suc, _+_, _<_}
@@ -7,8 +7,8 @@ use native.Mathlib.Omega.{arith}
 use lib.ListN.{length, take, set, length-set}
 use lib.Seq.{take-suc-set}
 use borrow.Author.Needs.{needs}
-use Rattle.gridtext.proofs.inner.line.put.Statement.{statement}
-use Rattle.gridtext.proofs.inner.line.put.Tie as tie
+use Rattle.gridtext.proofs.inner.line.put_words.Statement.{statement}
+use Rattle.gridtext.proofs.inner.line.put_words.Tie as tie
 
 put-one : (l : List ℕ) (n w : ℕ) → n < length l → take (n + 1) (set l n w) ≡ take n l ++ (w ∷ [])
 put-one l n w h = rw add-one (take-suc-set l n w h)
@@ -65,8 +65,8 @@ returns-2 c =
     let h = rw e at (c .before .before .before .pre .1) in
     (simp length-set (c .before .before .before .pre .0), rw e, rw e (put-two (a .words .now) (a .n) _ _ (omega (arith, c .before .before .before .pre .0))))
 
-pub put-spec : {M : Type 1} → statement M
-put-spec =
+pub put-words-spec : {M : Type 1} → statement M
+put-words-spec =
     tie.close
     (tie.spec
     enum-known-few

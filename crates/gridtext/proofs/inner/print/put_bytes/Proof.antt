@@ -1,4 +1,4 @@
--- `put` puts the bytes one by one: so many of them stand in the list, and the rest of it is as it was.
+-- `put_bytes` puts the bytes one by one: so many of them stand in the list, and the rest of it is as it was.
 use mathlib.Core.Path.{_≡_, refl}
 use Prim.Native.Nat.{_-_, _≤_}
 use native.Mathlib.Numerals.{add-one}
@@ -7,8 +7,8 @@ use lib.ListN.{length, length-set}
 use lib.Seq.{paste, paste-zero, paste-suc}
 use borrow.Author.Needs.{needs}
 use Rattle.gridtext.proofs.Printing.{printed-paste}
-use Rattle.gridtext.proofs.inner.print.put.Statement.{statement}
-use Rattle.gridtext.proofs.inner.print.put.Tie as tie
+use Rattle.gridtext.proofs.inner.print.put_bytes.Statement.{statement}
+use Rattle.gridtext.proofs.inner.print.put_bytes.Tie as tie
 
 abbrev Inv-loop : tie.InvT-loop
 Inv-loop out₀ at text i₀ out i = (i ≤ length text) × (out ≡ paste out₀ at text i) × (length out ≡ length out₀)
@@ -56,8 +56,8 @@ returns c =
     let l = c .before .loop in
     printed-paste (a .out .now) (l .out) (a .text .now) (a .at) (l .i) (c .before .before .pre) (omega arith) (l .inv .1) (l .inv .2)
 
-pub put-spec : {M : Type 1} → statement M
-put-spec =
+pub put-bytes-spec : {M : Type 1} → statement M
+put-bytes-spec =
     tie.close
     (tie.spec
     Inv-loop
