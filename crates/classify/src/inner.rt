@@ -12,7 +12,6 @@ use crate::half_edge::class_number;
 use crate::half_edge::class_of;
 use crate::half_edge::judge_side;
 use crate::half_edge::side_of;
-use axis::SpreadRule;
 use axis::inner::cache_at;
 use words::inner::wide;
 

@@ -1,5 +1,5 @@
 -- What the stages leave in the lists that they are lent. Up to the filters the workspace is theirs and may hold anything, and so may the list
--- of the quads behind them; then every group of the quads kept has its fate in the workspace.
+-- of the quads behind them; then every group of the quads kept has its fate in the workspace, and what they give is counted.
 use mathlib.Core.Path.{_≡_}
 use mathlib.Core.List.{List}
 use Prim.Native.Nat.{ℕ, _*_, max}
@@ -10,6 +10,9 @@ use Rattle.quads.specs.Call.{wordsOf}
 use Rattle.filter.specs.Input as filters
 use Rattle.filter.specs.Marks.{Marked, keptOf}
 use Rattle.fates.specs.Computed.{Computed}
+use Rattle.walk.specs.Emitted.{outTo}
+use Rattle.walk.specs.Emitting.{Counted}
+use Rattle.frame.specs.declared.inner.FrameCounts.{FrameCounts}
 use Rattle.frame.specs.Stages.{Input, classing, merging, filtering}
 
 -- the class list is written; n quads are made, and stand at the front of their list
@@ -33,3 +36,7 @@ pub record Fated (i : Input) (n : ℕ) (before after : List ℕ) : Type 0 where
   pub mid : List ℕ
   pub len : length mid ≡ length before
   pub computed : Computed (max n (length (i .xs))) (wordsOf (keptOf (filtering i) marks)) n (i .params .labels) mid after
+
+-- so many components, and entries in them, are what the fates in the workspace give
+abbrev pub CountedFates : (corners : ℕ) → FrameCounts → List ℕ → Type 0
+CountedFates corners counts work = Counted (outTo work (max (counts .quads) corners) (counts .quads) (counts .quads)) (counts .quads) (counts .totals .components) (counts .totals .entries)

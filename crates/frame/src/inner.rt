@@ -1,12 +1,12 @@
-// The rows of a frame apart from its work, row 8 apart from the rows before it, and the work up to the fates apart from writing: a caller of
-// several frames asks row 8 once and the others for each.
+// The rows of a frame apart from its work, row 8 apart from the rows before it, and the work up to the fates and their counts apart from
+// writing: a caller of several frames asks row 8 once and the others for each, and has the counts of each before it writes.
 ghost use mathlib.Core.Path.{_≡_};
 ghost use Prim.Native.Nat.{_≤_};
 ghost use lib.ListN.{length};
 ghost use Rattle.refusal.specs.declared.Gate.the-variants.{Open};
 ghost use Rattle.mesh.specs.Lists.{mostCorners, mostHalfEdges, workRow, frameWords};
 ghost use Rattle.frame.specs.Call.{judgeOf, entryGate};
-ghost use Rattle.frame.specs.Steps.{Fated};
+ghost use Rattle.frame.specs.Steps.{Fated, CountedFates};
 use crate::Params;
 use crate::gate::lengths_gate;
 use crate::gate::params_gate;
@@ -19,6 +19,14 @@ use mesh::inner::lists::frame_words;
 use mesh::inner::lists::work_row;
 use refusal::Gate;
 use refusal::inner::in_order;
+use walk::inner::Totals;
+use walk::inner::count_components;
+
+// How many quads are kept, and how many components and entries their groups make.
+pub struct FrameCounts {
+    pub quads: usize,
+    pub totals: Totals,
+}
 
 // Rows 1 to 7.
 pub fn judge(
@@ -56,7 +64,8 @@ pub fn work_gate(words: usize, edges: usize, corners: usize) -> Gate
     work_row(words, frame_words(edges, corners))
 }
 
-// The stages up to the fate of every group of the quads kept, for a frame that rows 1 to 8 let through; answers how many quads are kept.
+// The stages up to the fate of every group of the quads kept, for a frame that rows 1 to 8 let through; answers the counts, and writes no
+// component.
 pub fn compute_frame(
     x: &[f32],
     y: &[f32],
@@ -67,9 +76,10 @@ pub fn compute_frame(
     twins: &[u32],
     params: Params,
     work: &mut [u32],
-) -> usize
+) -> FrameCounts
     requires { ⌜ entryGate (record { xs = now x; ys = now y; angles = now angles; marks = now marks; spreads = now spreads; triangles = now triangles; twins = now twins; params = params }) (length (now work)) ≡ Open ⌝ }
-    ensures { λ r. ⌜ Fated (record { xs = now (x .entry); ys = now (y .entry); angles = now (angles .entry); marks = now (marks .entry); spreads = now (spreads .entry); triangles = now (triangles .entry); twins = now (twins .entry); params = params }) r (now (work .entry)) (now (work .exit)) ⌝ }
+    ensures { λ r. ⌜ Fated (record { xs = now (x .entry); ys = now (y .entry); angles = now (angles .entry); marks = now (marks .entry); spreads = now (spreads .entry); triangles = now (triangles .entry); twins = now (twins .entry); params = params }) (r .quads) (now (work .entry)) (now (work .exit)) ⌝ }
+    ensures { λ r. ⌜ CountedFates (length (now (x .entry))) r (now (work .exit)) ⌝ }
 {
     let labels = params.labels;
     let mut quads = [0u32; 4 * MOST_QUADS];
@@ -87,5 +97,8 @@ pub fn compute_frame(
     );
     let span = span_of(n, x.len());
     compute(&quads[..4 * n], work, span, n, labels);
-    n
+    FrameCounts {
+        quads: n,
+        totals: count_components(work, span, n),
+    }
 }

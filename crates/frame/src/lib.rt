@@ -47,6 +47,8 @@ pub fn label_frame(
     if let Gate::Shut(why) = room {
         return Labelled::Refused(why);
     }
-    let n = compute_frame(x, y, angles, marks, spreads, triangles, twins, params, work);
-    write_components(work, span_of(n, x.len()), n, components, entries)
+    let counts = compute_frame(x, y, angles, marks, spreads, triangles, twins, params, work);
+    let n = counts.quads;
+    let span = span_of(n, x.len());
+    write_components(work, span, n, counts.totals, components, entries)
 }

@@ -1,4 +1,4 @@
-// The kept groups as components and entries: how many there are, and their words at the fronts of two lists.
+// The kept groups as components and entries: what each adds to their numbers, and their words at the fronts of two lists.
 // A caller may rely on the order of the quads: a component for each that is kept, with an entry for each of its lone records.
 ghost use mathlib.Core.Path.{_≡_};
 ghost use mathlib.Core.Bool.{true, cond};
@@ -11,7 +11,8 @@ ghost use Rattle.fates.specs.Fates.{keyIn, cornerIn};
 ghost use Rattle.fates.specs.Judged.{isKept};
 ghost use Rattle.walk.specs.Emitted.{xIn, yIn, leastX, leastY, entriesOf, outTo};
 ghost use Rattle.walk.specs.Call.{entryWords, allEntries};
-ghost use Rattle.walk.specs.Emitting.{Ascending, Writable, pasted, Counted, Written};
+ghost use Rattle.walk.specs.Emitting.{Ascending, Writable, pasted, Written};
+use crate::inner::Totals;
 use fates::Fate;
 use fates::Run;
 use fates::Runs;
@@ -20,12 +21,6 @@ use fates::inner::runs_at;
 use laying::inner::labels::from_word;
 use laying::inner::layout::KEYS;
 use laying::inner::layout::SEEDS;
-
-// How many components, and how many entries in them.
-pub(crate) struct Totals {
-    pub components: usize,
-    pub entries: usize,
-}
 
 // The least words of a run.
 struct Least {
@@ -55,7 +50,7 @@ fn y_of(work: &[u32], at: usize, k: usize) -> u32
 }
 
 // Whether a group of this fate is written.
-fn is_kept(fate: Fate) -> bool
+pub(crate) fn is_kept(fate: Fate) -> bool
     ensures { λ r. ⌜ r ≡ isKept fate ⌝ }
 {
     match fate {
@@ -68,7 +63,7 @@ fn is_kept(fate: Fate) -> bool
 }
 
 // One component of `count` entries more, if it is kept.
-fn counted(totals: Totals, kept: bool, count: usize) -> Totals
+pub(crate) fn counted(totals: Totals, kept: bool, count: usize) -> Totals
     requires { ⌜ (totals .components < 4294967296) × (totals .entries + count < 4294967296) ⌝ }
     ensures { λ r. ⌜ (r .components ≡ cond kept (totals .components + 1) (totals .components)) × (r .entries ≡ cond kept (totals .entries + count) (totals .entries)) ⌝ }
 {
@@ -77,25 +72,6 @@ fn counted(totals: Totals, kept: bool, count: usize) -> Totals
             components: totals.components + 1,
             entries: totals.entries + count,
         };
-    }
-    totals
-}
-
-// How many components and entries the kept groups make.
-pub(crate) fn count_out(work: &[u32], span: usize, n: usize) -> Totals
-    requires { ⌜ Writable (now work) span n ⌝ }
-    ensures { λ r. ⌜ Counted (outTo (now (work .entry)) span n n) n (r .components) (r .entries) ⌝ }
-{
-    let mut totals = Totals {
-        components: 0,
-        entries: 0,
-    };
-    let mut s = 0;
-    while s < n {
-        let kept = is_kept(fate_at(work, span, n, s));
-        let runs = runs_at(work, span, n, s);
-        totals = counted(totals, kept, runs.lone.count);
-        s += 1;
     }
     totals
 }

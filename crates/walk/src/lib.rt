@@ -4,6 +4,7 @@ ghost use Rattle.walk.specs.Call.{Allowed};
 use fates::LabelParams;
 use fates::inner::compute;
 use fates::inner::span_of;
+use inner::count_components;
 use inner::write_components;
 use refusal::Gate;
 use refusal::Refusal;
@@ -36,5 +37,6 @@ pub fn label_components(
     let n = quads.len() / 4;
     let span = span_of(n, corners as usize);
     compute(quads, work, span, n, params);
-    write_components(work, span, n, components, entries)
+    let totals = count_components(work, span, n);
+    write_components(work, span, n, totals, components, entries)
 }

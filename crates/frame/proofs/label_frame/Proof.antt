@@ -1,4 +1,4 @@
--- `label_frame` is allowed: the rows, then the stages, then what follows the labelling.
+-- `label_frame` is allowed: the rows, then the stages and their counts, then what follows the labelling.
 use mathlib.Core.Path.{_≡_}
 use lib.ListN.{length}
 use Rattle.refusal.specs.declared.Gate.the-variants.{Open}
@@ -50,7 +50,11 @@ span-of-requires : tie.Need-span-of-requires
 span-of-requires c κs = search needs
 
 write-components-requires : tie.Need-write-components-requires
-write-components-requires c κs = may-emit (read (c .before .before .before .before .before .before .before .before .before .before .before .before .before .before .before .before .before .before .before .before .before .before .before .before)) (c .before .before .before .before .before .before .before .before .before .before .before .before .before .before .before .before .before .before .before .before .before .before .before .before .args .work .now) _ _ _ (through (c .before .before .before .before .before .before .before .before)) (c .before .before .before .before .before .before .compute-frame .ensures) (c .before .before .span-of .ensures)
+write-components-requires c κs =
+    let s = c .before .before .before .before .before .before .before .before .before .before .before .before .before .before .before .before .before .before .before .before .before .before .before .before in
+    let told = c .before .before .before .before .before .before .compute-frame .ensures in
+    let spanned = c .before .before .before .span-of .ensures in
+    (may-emit (read s) (s .args .work .now) _ _ _ (through (c .before .before .before .before .before .before .before .before)) (told .0) spanned, rw spanned (told .1))
 
 same-length : tie.Need-same-length
 same-length c = search needs
@@ -62,7 +66,9 @@ same-length-3 : tie.Need-same-length-3
 same-length-3 c = search needs
 
 returns-3 : tie.Need-returns-3
-returns-3 c = emitted (read (c .before .before .before .before .before .before .before .before .before .before .before .before .before .before .before .before .before .before .before .before .before .before .before .before .before .before .before .before .before .before .before)) (c .before .before .before .before .before .before .before .before .before .before .before .before .before .before .before .before .before .before .before .before .before .before .before .before .before .before .before .before .before .before .before .args .work .now) _ _ _ (through (c .before .before .before .before .before .before .before .before .before .before .before .before .before .before .before)) (c .before .before .before .before .before .before .before .before .before .before .before .before .before .compute-frame .ensures) (c .before .before .before .before .before .before .before .before .before .span-of .ensures) _ _ _ (c .before .before .before .before .before .before .write-components .ensures)
+returns-3 c =
+    let s = c .before .before .before .before .before .before .before .before .before .before .before .before .before .before .before .before .before .before .before .before .before .before .before .before .before .before .before .before .before .before .before in
+    emitted (read s) (s .args .work .now) _ _ _ (through (c .before .before .before .before .before .before .before .before .before .before .before .before .before .before .before)) (c .before .before .before .before .before .before .before .before .before .before .before .before .before .compute-frame .ensures .0) (c .before .before .before .before .before .before .before .before .before .before .span-of .ensures) _ _ _ (c .before .before .before .before .before .before .write-components .ensures)
 
 pub label-frame-spec : {M : Type 1} → statement M
 label-frame-spec = tie.close (tie.spec judge-requires enum-known-gate returns enum-told work-gate-requires enum-known-room returns-2 enum-told-2 compute-frame-requires span-of-requires write-components-requires same-length same-length-2 same-length-3 returns-3)

@@ -1,4 +1,4 @@
--- `label_components` is allowed: the rows, then the labelling, then what follows it.
+-- `label_components` is allowed: the rows, then the labelling, then the counts, then what follows them.
 use mathlib.Core.Path.{sym, _∙_}
 use Rattle.walk.specs.Input.{Input}
 use Rattle.walk.proofs.Outcomes.{shut, Entered, may-compute, may-emit, emitted}
@@ -31,8 +31,11 @@ span-of-requires c κs = search needs
 compute-requires : tie.Need-compute-requires
 compute-requires c κs = may-compute (entered (c .before))
 
+count-components-requires : tie.Need-count-components-requires
+count-components-requires c κs = may-emit (entered (c .before .before .before .before .before)) (c .before .before .before .compute .ensures)
+
 write-components-requires : tie.Need-write-components-requires
-write-components-requires c κs = may-emit (entered (c .before .before .before .before .before .before .before)) (c .before .before .before .before .before .compute .ensures)
+write-components-requires c κs = (may-emit (entered (c .before .before .before .before .before .before .before .before .before)) (c .before .before .before .before .before .before .before .compute .ensures), c .before .before .before .count-components .ensures)
 
 same-length : tie.Need-same-length
 same-length c = search needs
@@ -44,7 +47,7 @@ same-length-3 : tie.Need-same-length-3
 same-length-3 c = search needs
 
 returns-2 : tie.Need-returns-2
-returns-2 c = emitted (entered (c .before .before .before .before .before .before .before .before .before .before .before .before .before .before)) (c .before .before .before .before .before .before .before .before .before .before .before .before .compute .ensures) _ _ _ (c .before .before .before .before .before .before .write-components .ensures)
+returns-2 c = emitted (entered (c .before .before .before .before .before .before .before .before .before .before .before .before .before .before .before .before)) (c .before .before .before .before .before .before .before .before .before .before .before .before .before .before .compute .ensures) _ _ _ (c .before .before .before .before .before .before .write-components .ensures)
 
 pub label-components-spec : {M : Type 1} → statement M
-label-components-spec = tie.close (tie.spec entry-requires enum-known-gate returns enum-told span-of-requires compute-requires write-components-requires same-length same-length-2 same-length-3 returns-2)
+label-components-spec = tie.close (tie.spec entry-requires enum-known-gate returns enum-told span-of-requires compute-requires count-components-requires write-components-requires same-length same-length-2 same-length-3 returns-2)

@@ -1,48 +1,50 @@
--- `write_components`: the counts, then the rooms for what would be written, then the components and their entries.
+-- `write_components`: the rooms for what would be written, then the components and their entries.
+use Prim.Native.Nat.{_<_}
 use native.Mathlib.Omega.{arith}
 use Rattle.walk.proofs.Rooms.{few, may-write, short, short-entries, done}
 use borrow.Author.Needs.{needs}
 use Rattle.walk.proofs.inner.write_components.Statement.{statement}
 use Rattle.walk.proofs.inner.write_components.Tie as tie
 
-count-out-requires : tie.Need-count-out-requires
-count-out-requires c κs = search needs
+-- the totals are words
+words : (s : tie.Start) → (s .args .totals .components < 4294967296) × (s .args .totals .entries < 4294967296)
+words s = few (s .pre .1) (s .pre .0 .quads)
 
 fill-zero-requires : tie.Need-fill-zero-requires
 fill-zero-requires c κs = search needs
 
-cast-t15 : tie.Need-cast-t15
-cast-t15 c = omega (arith, few (c .before .before .before .before .before .before .before .count-out .ensures) (c .before .before .before .before .before .before .before .before .before .before .before .before .pre .quads))
+cast-t13 : tie.Need-cast-t13
+cast-t13 c = omega (arith, words (c .before .before .before .before .before .before .before .before .before .before))
 
 same-length : tie.Need-same-length
 same-length c = search needs
 
 returns : tie.Need-returns
-returns c = short (c .before .before .before .before .before .before .before .count-out .ensures) _ _ _ _ (c .before .before .before .fill-zero .ensures) (c .before .before .before .before .before .if1 .taken)
+returns c = short (c .before .before .before .before .before .before .before .before .before .before .pre .1) _ _ _ _ (c .before .before .before .fill-zero .ensures) (c .before .before .before .before .before .if1 .taken)
 
 fill-zero-requires-2 : tie.Need-fill-zero-requires-2
 fill-zero-requires-2 c κs = search needs
 
-cast-t20 : tie.Need-cast-t20
-cast-t20 c = omega (arith, few (c .before .before .before .before .before .before .before .before .before .count-out .ensures) (c .before .before .before .before .before .before .before .before .before .before .before .before .before .before .pre .quads))
+cast-t18 : tie.Need-cast-t18
+cast-t18 c = omega (arith, words (c .before .before .before .before .before .before .before .before .before .before .before .before))
 
 same-length-2 : tie.Need-same-length-2
 same-length-2 c = search needs
 
 returns-2 : tie.Need-returns-2
-returns-2 c = short-entries (c .before .before .before .before .before .before .before .before .before .count-out .ensures) _ _ _ _ (c .before .before .before .fill-zero2 .ensures) (c .before .before .before .before .before .before .before .if1 .left) (c .before .before .before .before .before .if2 .taken)
+returns-2 c = short-entries (c .before .before .before .before .before .before .before .before .before .before .before .before .pre .1) _ _ _ _ (c .before .before .before .fill-zero2 .ensures) (c .before .before .before .before .before .before .before .if1 .left) (c .before .before .before .before .before .if2 .taken)
 
 write-out-requires : tie.Need-write-out-requires
-write-out-requires c κs = let s = c .before .before .before .before .before .before .before .before .before .before .before .before in (s .pre, may-write (c .before .before .before .before .before .before .before .count-out .ensures) (s .args .components .now) (s .args .entries .now) (c .before .before .before .before .before .if1 .left) (c .before .before .before .if2 .left))
+write-out-requires c κs = let s = c .before .before .before .before .before .before .before .before .before .before in (s .pre .0, may-write (s .pre .1) (s .args .components .now) (s .args .entries .now) (c .before .before .before .before .before .if1 .left) (c .before .before .before .if2 .left))
 
 fill-zero-requires-3 : tie.Need-fill-zero-requires-3
 fill-zero-requires-3 c κs = search needs
 
-cast-t31 : tie.Need-cast-t31
-cast-t31 c = omega (arith, few (c .before .before .before .before .before .before .before .before .before .before .before .before .before .before .before .before .before .count-out .ensures) (c .before .before .before .before .before .before .before .before .before .before .before .before .before .before .before .before .before .before .before .before .before .before .pre .quads))
+cast-t29 : tie.Need-cast-t29
+cast-t29 c = omega (arith, words (c .before .before .before .before .before .before .before .before .before .before .before .before .before .before .before .before .before .before .before .before))
 
-cast-t32 : tie.Need-cast-t32
-cast-t32 c = omega (arith, few (c .before .before .before .before .before .before .before .before .before .before .before .before .before .before .before .before .before .before .count-out .ensures) (c .before .before .before .before .before .before .before .before .before .before .before .before .before .before .before .before .before .before .before .before .before .before .before .pre .quads))
+cast-t30 : tie.Need-cast-t30
+cast-t30 c = omega (arith, words (c .before .before .before .before .before .before .before .before .before .before .before .before .before .before .before .before .before .before .before .before .before))
 
 same-length-3 : tie.Need-same-length-3
 same-length-3 c = search needs
@@ -54,7 +56,7 @@ same-length-5 : tie.Need-same-length-5
 same-length-5 c = search needs
 
 returns-3 : tie.Need-returns-3
-returns-3 c = done (c .before .before .before .before .before .before .before .before .before .before .before .before .before .before .before .before .before .before .count-out .ensures) _ _ _ _ (c .before .before .before .before .fill-zero3 .ensures) _ _ (c .before .before .before .before .before .before .before .before .before .before .before .before .before .before .before .before .if1 .left) (c .before .before .before .before .before .before .before .before .before .before .before .before .before .before .if2 .left) (c .before .before .before .before .before .before .before .before .before .before .write-out .ensures)
+returns-3 c = done (c .before .before .before .before .before .before .before .before .before .before .before .before .before .before .before .before .before .before .before .before .before .pre .1) _ _ _ _ (c .before .before .before .before .fill-zero3 .ensures) _ _ (c .before .before .before .before .before .before .before .before .before .before .before .before .before .before .before .before .if1 .left) (c .before .before .before .before .before .before .before .before .before .before .before .before .before .before .if2 .left) (c .before .before .before .before .before .before .before .before .before .before .write-out .ensures)
 
 pub write-components-spec : {M : Type 1} → statement M
-write-components-spec = tie.close (tie.spec count-out-requires fill-zero-requires cast-t15 same-length returns fill-zero-requires-2 cast-t20 same-length-2 returns-2 write-out-requires fill-zero-requires-3 cast-t31 cast-t32 same-length-3 same-length-4 same-length-5 returns-3)
+write-components-spec = tie.close (tie.spec fill-zero-requires cast-t13 same-length returns fill-zero-requires-2 cast-t18 same-length-2 returns-2 write-out-requires fill-zero-requires-3 cast-t29 cast-t30 same-length-3 same-length-4 same-length-5 returns-3)

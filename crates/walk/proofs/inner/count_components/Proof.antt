@@ -1,4 +1,4 @@
--- `count_out`: after the quads below s, their components and entries are counted.
+-- `count_components`: after the quads below s, their components and entries are counted.
 use mathlib.Core.Path.{_≡_, ap, _∙_}
 use Prim.Native.Nat.{_-_, _≤_}
 use native.Mathlib.Omega.{arith}
@@ -6,8 +6,8 @@ use borrow.Author.Needs.{needs}
 use Rattle.fates.specs.declared.Runs.{Runs}
 use Rattle.fates.specs.Judged.{isKept}
 use Rattle.walk.proofs.Counting.{Counting, counting-none, counting-more}
-use Rattle.walk.proofs.emit.count_out.Statement.{statement}
-use Rattle.walk.proofs.emit.count_out.Tie as tie
+use Rattle.walk.proofs.inner.count_components.Statement.{statement}
+use Rattle.walk.proofs.inner.count_components.Tie as tie
 
 abbrev Inv-loop : tie.InvT-loop
 Inv-loop work span n totals₀ s₀ totals s = (s ≤ n) × Counting work span n s (totals .components) (totals .entries)
@@ -55,5 +55,5 @@ returns c =
     let e : l .s ≡ c .before .before .before .args .n = omega arith in
     rw e at (l .inv .1)
 
-pub count-out-spec : {M : Type 1} → statement M
-count-out-spec = tie.close (tie.spec Inv-loop μ-loop loop-holds fate-at-requires is-kept-requires runs-at-requires counted-requires add-s loop-less loop-again returns)
+pub count-components-spec : {M : Type 1} → statement M
+count-components-spec = tie.close (tie.spec Inv-loop μ-loop loop-holds fate-at-requires is-kept-requires runs-at-requires counted-requires add-s loop-less loop-again returns)
