@@ -2,8 +2,9 @@
 
 use ngeunsadok::*;
 
-/// The frame of document 01: a square of four corners in two triangles, axes along its sides, no spreads.
 const UP: f32 = std::f32::consts::FRAC_PI_2;
+
+/// The frame of document 01: a square of four corners in two triangles, axes along its sides, no spreads.
 const SQUARE: Frame = Frame {
     corners: Positions { x: &[0.0, 10.0, 10.0, 0.0], y: &[0.0, 0.0, 10.0, 10.0] },
     axes: Axes { angles: &[0.0, UP, 0.0, UP, 0.0, UP, 0.0, UP], marks: &[0; 8], spreads: &[0.0; 8] },
@@ -68,7 +69,8 @@ fn rows_1_to_7_come_before_the_workspace() {
     let rooms = [1, 1, 4];
     refused(Frame { twins: &SQUARE.twins[..5], ..SQUARE }, PARAMS, rooms, 1, 0, REST);
     let many = vec![0.0; 8_194];
-    let (corners, axes) = (Positions { x: &many[..4_097], y: &many[..4_097] }, Axes { angles: &many, marks: &[0; 8_194], spreads: &many });
+    let (corners, axes) =
+        (Positions { x: &many[..4_097], y: &many[..4_097] }, Axes { angles: &many, marks: &[0; 8_194], spreads: &many });
     refused(Frame { corners, axes, ..SQUARE }, PARAMS, rooms, 2, 0, REST);
     let edges = EdgeParams { limit: f32::NAN, ..PARAMS.edges };
     refused(SQUARE, Params { edges, ..PARAMS }, rooms, 3, 4, REST);
@@ -84,7 +86,7 @@ fn rows_1_to_7_come_before_the_workspace() {
     refused(Frame { twins: &[NO_TWIN, NO_TWIN, 4, NO_TWIN, 2, NO_TWIN], ..SQUARE }, PARAMS, rooms, 7, 2, REST);
 }
 
-/// The square of document 01 so many times, apart from one another; then triangles without twins, so many in all.
+/// The square of document 01 so many times, apart from one another; then triangles 0 1 2 without twins, up to so many in all.
 struct Squares {
     x: Vec<f32>,
     y: Vec<f32>,
@@ -94,7 +96,9 @@ struct Squares {
 
 impl Squares {
     fn of(squares: u32, triangles: u32) -> Squares {
-        let places = |own: &[f32], from: fn(u32) -> u32| (0..squares).flat_map(|k| own.iter().map(move |at| at + 20.0 * from(k) as f32)).collect();
+        let places = |own: &[f32], from: fn(u32) -> u32| {
+            (0..squares).flat_map(|k| own.iter().map(move |at| at + 20.0 * from(k) as f32)).collect()
+        };
         let corners = |k: u32| SQUARE.triangles.iter().map(move |corner| corner + 4 * k);
         let twins = |k: u32| SQUARE.twins.iter().map(move |&twin| if twin == NO_TWIN { NO_TWIN } else { twin + 6 * k });
         let more = 3 * (triangles - 2 * squares);

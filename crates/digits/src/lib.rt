@@ -1,6 +1,6 @@
 // Words as text: hex digits and decimal digits. A reader takes a word from a text exactly where its printed form stands, with the byte that
 // ends it. `inner` writes a word.
-ghost use Prim.Native.Nat.{_+_, _<_, _≤_, _^_};
+ghost use Prim.Native.Nat.{_<_, _≤_, _^_};
 ghost use mathlib.Core.Path.{_≡_};
 ghost use Rattle.digits.specs.Digits.{hexOf, decimalOf};
 ghost use Rattle.digits.specs.Run.{Run as Spelt, Value, endOf};

@@ -1,4 +1,4 @@
-// The stage without its checks, for a frame whose rows have let it through: the marks, their count, and the quads kept.
+// The stage without its checks: the marks; their count and the quads kept, for the call; the quads kept in place, for a frame.
 ghost use mathlib.Core.Path.{_≡_};
 ghost use mathlib.Core.List.{_++_};
 ghost use Prim.Native.Nat.{ℕ, _+_, _*_, _/_, _≤_};
@@ -28,7 +28,7 @@ pub fn mark_quads(x: &[f32], y: &[f32], quads: &[u32], params: FilterParams, wor
     mark_off_size(quads, work, params);
 }
 
-// How many of the first n marks keep their quad. `filter_quads` shows by row 8 that there are so many.
+// How many of the first n marks keep their quad. `filter_quads` shows by row 8 that the workspace has so many words.
 pub(crate) fn count_kept(work: &[u32], n: usize) -> usize
     requires { ⌜ n ≤ length (now work) ⌝ }
     ensures { λ r. ⌜ r ≡ equal (λ (q : ℕ). getD (now (work .entry)) q 0) n 0 ⌝ }

@@ -77,6 +77,8 @@ of-the-frame =
 
 -- ---- the list
 
+-- the computed labelling of the four quads fits, and gives corners 1 and 9 one pair
+
 abbrev readings : List Reading
 readings = map (reading four-round) (known-from four-round 0)
 

@@ -22,7 +22,7 @@ use Rattle.filter.specs.Topology.{incidence, illegal}
 use Rattle.filter.specs.Worked.{five, pairs}
 use Rattle.frame.specs.Stages.{Input, Answer}
 
--- four quads round corner 0; `five` are five, and `pairs` the sides 1, 1, 2, 2
+-- four quads round corner 0 that close; `five` are five, and `pairs` the sides 1, 1, 2, 2
 abbrev pub four : List ℕ
 four = 0 ∷ 1 ∷ 2 ∷ 3 ∷ 0 ∷ 3 ∷ 4 ∷ 5 ∷ 0 ∷ 5 ∷ 6 ∷ 7 ∷ 0 ∷ 7 ∷ 8 ∷ 1 ∷ []
 
@@ -30,6 +30,7 @@ four = 0 ∷ 1 ∷ 2 ∷ 3 ∷ 0 ∷ 3 ∷ 4 ∷ 5 ∷ 0 ∷ 5 ∷ 6 ∷ 7 ∷ 0
 abbrev pub one-group : List ℕ → ℕ → ℕ → List Told → Example
 one-group quads least-quads least-corners answer = record { cells = quads; groups = replicate (length quads / 4) 0; least-quads = least-quads; least-corners = least-corners; answer = answer }
 
+-- four quads round corner 0 of which the last does not close
 abbrev pub four-round : List ℕ
 four-round = 0 ∷ 1 ∷ 2 ∷ 3 ∷ 0 ∷ 3 ∷ 4 ∷ 5 ∷ 0 ∷ 5 ∷ 6 ∷ 7 ∷ 0 ∷ 7 ∷ 8 ∷ 9 ∷ []
 

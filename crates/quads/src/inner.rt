@@ -1,4 +1,4 @@
-// The stage without its checks, for a frame whose rows have let it through: counting the quads, and writing them.
+// The stage without its checks: counting the quads, for the call, and writing them, for the call and for a frame.
 ghost use mathlib.Core.Path.{_≡_};
 ghost use mathlib.Core.Bool.{true};
 ghost use mathlib.Core.List.{[], _∷_, _++_};

@@ -15,6 +15,7 @@ use vectors::inner::list::fill;
 use vectors::inner::list::fill_floats;
 use vectors::word_at;
 
+// The call's answer, and the three lists after it.
 fn label_lists(
     x: &[f32],
     y: &[f32],
@@ -71,7 +72,8 @@ fn params_at(text: &[u8], at: usize) -> Params
     }
 }
 
-// The lists that the call is lent, which end the case.
+// The lists that the call is lent, which end the case. All arrays are a little longer than the longest list of the vectors; no case at the
+// limit of half-edges is answered, so that the workspace need not hold one.
 fn with_lent(
     text: &[u8],
     at: usize,
@@ -170,6 +172,7 @@ fn with_axes(text: &[u8], at: usize, x: &[f32], y: &[f32], params: Params) -> us
     )
 }
 
+// The parameters and the positions, then the rest.
 pub(crate) fn replay(text: &[u8], at: usize) -> usize
     requires { ⌜ at ≤ length (now text) ⌝ }
     ensures { λ r. ⌜ Onward (now (text .entry)) at r ⌝ }

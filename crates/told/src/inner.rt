@@ -29,7 +29,8 @@ pub struct Lines {
     pub entries: usize,
 }
 
-// The lists stand one after the other in the text, from a place in it that the caller has from the list before.
+// Reads the three lists, which stand one after the other in the text, to the fronts of the arrays. The caller has the place from the list
+// before.
 pub fn lend(
     text: &[u8],
     at: usize,

@@ -52,7 +52,7 @@ pub struct Expected {
 /// One frame in so many has as many corners and half-edges as the limits allow.
 const FULL: usize = 500;
 
-/// One of those in so many is damaged.
+/// Of those one in so many is damaged.
 const FULL_DAMAGED: usize = 10;
 
 /// A grid that is closed both ways and has as many corners and half-edges as there may be, each
@@ -70,7 +70,8 @@ fn full(random: &mut Random) -> (&'static str, Frame) {
     ("damaged", frame)
 }
 
-/// Frame number `number` of a run: all kinds in turn, of many sizes, the last of each turn damaged;
+/// Frame number `number` of a run: all kinds in turn, of many sizes, the last of each turn damaged,
+/// at times a full one;
 /// workspace and room mostly enough, at times short.
 pub fn drawn(seed: u64, number: usize) -> Drawn {
     let mut random = Random::part(!seed, number as u64);

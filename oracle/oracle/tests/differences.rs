@@ -5,7 +5,7 @@ use frame::{Frame, NONE};
 use oracle::judge::{judge, Refusal};
 use std::panic::catch_unwind;
 
-/// Corners at (0,0), without axes, and triangles without twins.
+/// Corners at (0,0), both axes at angle 0 and without spreads, and triangles without twins.
 fn frame(corners: usize, triangles: &[u32]) -> Frame {
     Frame {
         x: vec![0.0; corners],

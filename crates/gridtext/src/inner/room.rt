@@ -1,4 +1,4 @@
-// The sizes of a text's lists, each named once: how many lines a text may have, how many words a line gives, and what room is kept for a
+// The sizes of a text's lists: how many lines a text may have, how many words a line gives, and what room is kept for a
 // frame and its answer. The specs have the same names.
 
 // C lines and T lines of a text, at most.

@@ -1,6 +1,6 @@
 // The sorts of line, and the fields of each: of which kind they are, and how a field of a kind is read.
 ghost use mathlib.Core.Path.{_≡_};
-ghost use Prim.Native.Nat.{_+_, _<_};
+ghost use Prim.Native.Nat.{_<_};
 ghost use lib.ListN.{length, getD};
 ghost use Rattle.digits.specs.Run.{endOf};
 ghost use Rattle.gridtext.specs.Rows.{letterOf, kindsOf, sizeOf, foundOf, PairAt, FieldAt};

@@ -1,6 +1,5 @@
 // Row 7: twins that point back between the same corners. The three faults are three tests, tried in the table's order.
 ghost use mathlib.Core.Path.{_≡_};
-ghost use mathlib.Core.Bool.{true};
 ghost use Prim.Native.Nat.{_%_, _<_};
 ghost use lib.ListN.{length};
 ghost use Rattle.refusal.specs.First.{firstOf};

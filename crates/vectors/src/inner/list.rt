@@ -1,6 +1,6 @@
 // Lists of a case, read to the front of arrays.
 ghost use mathlib.Core.Path.{_≡_};
-ghost use Prim.Native.Nat.{ℕ, _+_, _*_, _<_, _≤_};
+ghost use Prim.Native.Nat.{ℕ, _+_, _*_, _≤_};
 ghost use lib.Ieee.{nan, binary32, ofBits};
 ghost use lib.ListN.{length};
 ghost use Rattle.vectors.specs.Hex.{wordAt};

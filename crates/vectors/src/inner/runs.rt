@@ -1,7 +1,7 @@
 // Answers as lines: a refusal, numbers of records, and a list as runs: the length of each maximal run of equal words, and the word.
 // What goes to standard output no contract can say; each answers how much its line tells.
 ghost use mathlib.Core.Path.{_≡_};
-ghost use Prim.Native.Nat.{_+_, _<_, _≤_};
+ghost use Prim.Native.Nat.{_<_, _≤_};
 ghost use lib.ListN.{length};
 ghost use Rattle.vectors.specs.Hex.{refusalLine};
 ghost use Rattle.digits.specs.Digits.{decimalOf};
@@ -78,7 +78,7 @@ pub fn write_count(count: u32) -> usize
     places + 6
 }
 
-// Two numbers of records; the same.
+// Two numbers of records; answers the line's number of bytes.
 pub fn write_counts(first: u32, second: u32) -> usize
     ensures { λ r. ⌜ r ≡ length (countsLine first second) ⌝ }
 {
