@@ -132,7 +132,7 @@ ngeunsadok_cache ngeunsadok_axis_cache(float angle0, uint32_t marked0, float spr
  * Written: components, three words each, by their lowest quads; and entries, three words each, in order of u, then v, within a component.
  * With h elements of triangles there are at most h / 6 components and 4 * (h / 6) entries, both divisions rounded down: lists of
  * 3 * (h / 6) and 12 * (h / 6) words always have room.
- * Lent: work, of NGEUNSADOK_FRAME_WORK(h, corners) words or more. The call also takes some 160 KiB of stack.
+ * Lent: work, of NGEUNSADOK_FRAME_WORK(h, corners) words or more. The call also takes some 84 KiB of stack.
  *
  * Rows 1 to 10. Rows 1 to 8 leave work, components and entries as they were. Rows 9 and 10 leave components and entries as they were and
  * all of work zero. Success leaves all of work zero, and components and entries as they were past the answer. */

@@ -28,7 +28,8 @@ pub struct Params {
 }
 
 /// Writes the components of a frame and the entries of all to the fronts of their lists. With h half-edges there are at most h / 6
-/// components, rounded down, and four times as many entries. `work` has [`frame_work`] words or more.
+/// components, rounded down, and four times as many entries. `work` has [`frame_work`] words or more. The call takes some 84 KiB of
+/// stack.
 pub fn label_frame(
     frame: Frame,
     params: Params,
