@@ -1,8 +1,8 @@
-// The archive's calls as functions over a frame's lists of any length: each call is total, so nothing has to be tested first, and a list
-// need not be of whole records.
+// The archive's calls as functions over a frame's lists of any length: each call is total, so nothing has to be tested first. The safe
+// package has the calls that lend no records; to the others a list is lent that need not be of whole records, which its types cannot say.
 
 use frame::Frame;
-use ngeunsadok as _;
+use ngeunsadok::{Axes, EdgeParams, Positions};
 use oracle::calls::Given;
 use oracle::judge::Refusal;
 
@@ -19,47 +19,27 @@ fn told<T>(refused: u32, place: u32, given: T) -> Result<T, Refusal> {
     }
 }
 
+/// The oracle's refusal for the package's.
+fn by_row(refusal: ngeunsadok::Refusal) -> Refusal {
+    Refusal { row: refusal.number, place: refusal.place }
+}
+
 #[inline]
 pub fn root(x: f32) -> Result<f32, Refusal> {
-    let root = unsafe { raw::ngeunsadok_root(x) };
-    told(root.refused, root.place, root.value)
+    ngeunsadok::root(x).map_err(by_row)
 }
 
 #[inline]
 pub fn angle(dx: f32, dy: f32) -> Result<f32, Refusal> {
-    let angle = unsafe { raw::ngeunsadok_angle(dx, dy) };
-    told(angle.refused, angle.place, angle.value)
-}
-
-#[inline]
-pub fn distance(angle: f32, axis: f32) -> Option<f32> {
-    let d = unsafe { raw::ngeunsadok_distance(angle, axis) };
-    (d.known == 1).then_some(d.value)
+    ngeunsadok::angle(dx, dy).map_err(by_row)
 }
 
 /// Writes the classes. The frame's twins are not read.
 pub fn classify_all_edges(frame: &Frame, classes: &mut [u32]) -> Result<(), Refusal> {
-    let verdict = unsafe {
-        raw::ngeunsadok_classify_all_edges(
-            frame.x.as_ptr(),
-            frame.x.len(),
-            frame.y.as_ptr(),
-            frame.y.len(),
-            frame.angles.as_ptr(),
-            frame.angles.len(),
-            frame.marks.as_ptr(),
-            frame.marks.len(),
-            frame.spreads.as_ptr(),
-            frame.spreads.len(),
-            frame.triangles.as_ptr(),
-            frame.triangles.len(),
-            frame.params.tolerance,
-            frame.params.spread_limit,
-            classes.as_mut_ptr(),
-            classes.len(),
-        )
-    };
-    told(verdict.refused, verdict.place, ())
+    let corners = Positions { x: &frame.x, y: &frame.y };
+    let axes = Axes { angles: &frame.angles, marks: &frame.marks, spreads: &frame.spreads };
+    let params = EdgeParams { tolerance: frame.params.tolerance, limit: frame.params.spread_limit };
+    ngeunsadok::classify_all_edges(corners, axes, &frame.triangles, params, classes).map_err(by_row)
 }
 
 /// How many quads there are. The frame's axes and parameters are not read.

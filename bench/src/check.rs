@@ -48,7 +48,7 @@ pub fn pairs(count: u64, seed: u64) {
         let (ours, theirs) = (known(archive::angle(dx, dy)), rules::angle_or_refused(dx, dy));
         angles.add(same(ours, theirs), 0, || format!("{:08X} {:08X}", dx.to_bits(), dy.to_bits()));
         let (angle, axis) = (theirs.unwrap_or(dx), if i % 2 == 0 { random.within(-8.0, 8.0) as f32 } else { dy });
-        let (ours, theirs) = (archive::distance(angle, axis), rules::distance_or_none(angle, axis));
+        let (ours, theirs) = (ngeunsadok::axis_distance(angle, axis), rules::distance_or_none(angle, axis));
         distances.add(same(ours, theirs), 0, || format!("{:08X} {:08X}", angle.to_bits(), axis.to_bits()));
     }
     angles.print("angles");

@@ -49,6 +49,6 @@ pub fn run() {
     timing::head("per call, ns", &[]);
     row("root, beside f32::sqrt", &squares, |x, _| archive::root(x).unwrap_or(0.0), |x, _| rust_root(x));
     row("angle, beside atan2", &steps, |x, y| archive::angle(x, y).unwrap_or(0.0), rust_angle);
-    row("distance, axis within a half turn", &near, |a, b| archive::distance(a, b).unwrap_or(0.0), rust_distance);
-    row("distance, axis within ±100", &far, |a, b| archive::distance(a, b).unwrap_or(0.0), rust_distance);
+    row("distance, axis within a half turn", &near, |a, b| ngeunsadok::axis_distance(a, b).unwrap_or(0.0), rust_distance);
+    row("distance, axis within ±100", &far, |a, b| ngeunsadok::axis_distance(a, b).unwrap_or(0.0), rust_distance);
 }

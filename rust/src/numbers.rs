@@ -4,6 +4,7 @@ use crate::raw;
 use crate::refusal::{told, Refusal};
 
 /// The IEEE 754 square root, nearest, ties to even. Refuses a value that is NaN, infinite or below zero.
+#[inline]
 pub fn root(x: f32) -> Result<f32, Refusal> {
     // SAFETY: numbers alone cross the boundary.
     let root = unsafe { raw::ngeunsadok_root(x) };
@@ -11,6 +12,7 @@ pub fn root(x: f32) -> Result<f32, Refusal> {
 }
 
 /// The angle of (dx, dy) in radians, by document 01's rule. Refuses a difference that is not finite or above 2,097,152 in magnitude.
+#[inline]
 pub fn angle(dx: f32, dy: f32) -> Result<f32, Refusal> {
     // SAFETY: numbers alone cross the boundary.
     let angle = unsafe { raw::ngeunsadok_angle(dx, dy) };
@@ -18,6 +20,7 @@ pub fn angle(dx: f32, dy: f32) -> Result<f32, Refusal> {
 }
 
 /// The distance of an angle from an axis, which has no direction; none where it is not finite.
+#[inline]
 pub fn axis_distance(angle: f32, axis: f32) -> Option<f32> {
     // SAFETY: numbers alone cross the boundary.
     let apart = unsafe { raw::ngeunsadok_distance(angle, axis) };

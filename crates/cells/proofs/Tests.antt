@@ -91,6 +91,10 @@ pub in-front : {A : Type 0} {x : A} {xs : List A} (ys : List A) → In x xs → 
 in-front ys (first p) = first p
 in-front ys (later i) = later (in-front ys i)
 
+pub in-last : {A : Type 0} {x : A} (xs : List A) → In x (xs ++ (x ∷ []))
+in-last [] = first refl
+in-last (y ∷ xs) = later (in-last xs)
+
 pub in-map : {A B : Type 0} (f : A → B) {x : A} {xs : List A} → In x xs → In (f x) (map f xs)
 in-map f (first p) = first (ap f p)
 in-map f (later i) = later (in-map f i)

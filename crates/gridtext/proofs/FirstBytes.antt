@@ -7,6 +7,7 @@ use native.Mathlib.Omega.{arith}
 use lib.ListN.{length, take, drop, length-append, length-map, take-append-drop}
 use lib.Seq.{length-take-le, take-append-le, take-at}
 use Rattle.cells.specs.Listed.{In}
+use Rattle.cells.proofs.Tests.{in-last}
 use Rattle.digits.specs.Digits.{hexOf, decimalOf}
 use Rattle.gridtext.specs.Lines.{Field, Line, fieldOf, spaced, lineOf, printed, IsWord, WordField, LineWords}
 use Rattle.gridtext.specs.Text.{Frame, linesOf, Fitting, Reads, Bad}
@@ -14,7 +15,6 @@ use Rattle.gridtext.specs.Gridlabel.{Answers, mostText}
 use Rattle.gridtext.proofs.Bounds.{digits-most}
 use Rattle.gridtext.proofs.OneLine.{Words}
 use Rattle.gridtext.proofs.OneReading.{fitting-words}
-use Rattle.gridtext.proofs.Runs.{in-last}
 
 -- ---- a line takes at most 78 bytes: a letter, and seven fields of ten with a blank before each
 
@@ -93,7 +93,7 @@ module _ (text : List ℕ) (long : mostText ≤ length text) where
         is = sym (take-append-drop mostText text) ∙ ap (λ (x : List ℕ). x ++ more) (b .is) ∙ append-assoc (printed (b .before)) (b .rest) more;
         number = b .number;
         ends = λ e. absurd (omega (arith, ap length e, length-append (b .rest) more));
-        stuck = λ l after e fits. b .stuck l (drop (length (lineOf l) + 1) (b .rest)) (line-in l (b .rest) more after (omega (arith, line-few l (fitting-words fits l (in-last (b .before) l)))) e) fits;
+        stuck = λ l after e fits. b .stuck l (drop (length (lineOf l) + 1) (b .rest)) (line-in l (b .rest) more after (omega (arith, line-few l (fitting-words fits l (in-last (b .before))))) e) fits;
       }
 
   pub first-bytes-decide : (out : List ℕ) → Answers (take mostText text) out → Answers text out

@@ -7,12 +7,12 @@ use Prim.Native.Nat.{ℕ, _+_, _<_}
 use native.Mathlib.Omega.{arith}
 use lib.ListN.{length, length-append}
 use Rattle.cells.specs.Listed.{In}
+use Rattle.cells.proofs.Tests.{in-last}
 use Rattle.digits.proofs.Numerals.{split-equal}
 use Rattle.gridtext.specs.declared.inner.row.Sort.{Sort}
 use Rattle.gridtext.specs.Lines.{ParamsLine, CornerLine, TriangleLine, Line, LineWords}
 use Rattle.gridtext.specs.Text.{mostCornerLines, mostTriangleLines, Frame, linesOf, Within, Fitting}
 use Rattle.gridtext.specs.Read.{sortOf, Of}
-use Rattle.gridtext.proofs.Runs.{in-last}
 
 -- ---- counting lines
 
@@ -117,7 +117,7 @@ module _ (f g : Frame) (within : Within g) (l : Line) (e : map Line.corner (g .c
 
 pub fits-behind : (f : Frame) (l : Line) (ls : List Line) → ls ≡ linesOf f ++ (l ∷ []) → Fitting ls → Behind f l
 fits-behind f l ls e Fitting.none = let z : _≡_ {A = ℕ} 0 1 = cc in absurd (omega arith)
-fits-behind f l ls e (Fitting.some g within) = behind f g within l (ap tail e) (within .words l (rw e (in-last (linesOf f) l)))
+fits-behind f l ls e (Fitting.some g within) = behind f g within l (ap tail e) (within .words l (rw e (in-last (linesOf f))))
 
 -- ---- lines of a sort
 

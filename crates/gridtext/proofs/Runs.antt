@@ -27,10 +27,6 @@ in-append {A} {e} (g ∷ es) fs (In.later i) = go (in-append es fs i)
     go (inl j) = inl (In.later j)
     go (inr q) = inr q
 
-pub in-last : {A : Type 0} (es : List A) (e : A) → In e (es ++ (e ∷ []))
-in-last [] e = In.first refl
-in-last (g ∷ es) e = In.later (in-last es e)
-
 pub printed-append : (ls ms : List Line) → printed (ls ++ ms) ≡ printed ls ++ printed ms
 unfolding printed
 printed-append [] ms = refl

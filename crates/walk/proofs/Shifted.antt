@@ -10,16 +10,12 @@ use Rattle.cells.specs.Listed.{In, Sorted, Entry, Before}
 use Rattle.cells.specs.Listed.In.{first, later}
 use Rattle.cells.specs.Listed.Sorted.{none, more}
 use Rattle.cells.specs.Listed.Before.{by-u, by-v}
-use Rattle.cells.proofs.Tests.{not-in, in-front}
+use Rattle.cells.proofs.Tests.{not-in, in-front, in-last}
 use Rattle.fates.specs.Fates.{keyIn, cornerIn}
 use Rattle.walk.specs.Emitted.{xIn, yIn, leastOf, entriesTo}
 use Rattle.walk.specs.Demanded.{Place}
 
 -- ---- lists with one more at their end
-
-in-last : {e : Entry} (es : List Entry) → In e (es ++ (e ∷ []))
-in-last [] = first refl
-in-last (f ∷ es) = later (in-last es)
 
 data Where (e f : Entry) (es : List Entry) : Type 0 where
   old : In e es → Where e f es

@@ -6,9 +6,6 @@ use borrow.Author.Needs.{needs}
 use Rattle.digits.proofs.Numerals.{Spelt, spelt-none, spelt-nowhere, spelt-run, spelt-small, spelt-more}
 use Rattle.digits.proofs.run_at.Statement.{statement}
 use Rattle.digits.proofs.run_at.Tie as tie
-use Rattle.digits.proofs.run_at.Reads as reads
-use Rattle.digits.proofs.run_at.Lts as lts
-use Rattle.digits.proofs.value.Reads as value-reads
 
 abbrev Inv-loop : tie.InvT-loop
 Inv-loop text at base most number₀ count₀ number count = Spelt text at base most number count
