@@ -4,7 +4,7 @@ use mathlib.Core.Path.{_≡_, sym, ap, _∙_}
 use mathlib.Core.List.{List}
 use Prim.Native.Nat.{ℕ}
 use Rattle.walk.specs.Input.{Input}
-use Rattle.walk.specs.Call.{Outcome}
+use Rattle.walk.specs.Call.{Outcome, labelledTold}
 use Rattle.walk.proofs.Determined as labelled
 use Rattle.frame.specs.Stages as frame
 use Rattle.frame.proofs.Determined as framed
@@ -15,7 +15,7 @@ use Rattle.abi.specs.Answers.{countsFrom, CountsTold, LabelTold, FrameTo
 told-once : (allows : Outcome → Type 0) → ((o p : Outcome) → allows o → allows p → o ≡ p) → (t u : Counts) (w v c d e f : List ℕ) → CountsTold allows t w c e → CountsTold allows u v d f → (t ≡ u) × (w ≡ v) × (c ≡ d) × (e ≡ f)
 told-once allows one t u w v c d e f p q =
     let same = one _ _ (p .allowed) (q .allowed) in
-    (p .tells ∙ ap (λ (o : Outcome). countsFrom (o .answer)) same ∙ sym (q .tells), ap (λ (o : Outcome). o .work) same, ap (λ (o : Outcome). o .components) same, ap (λ (o : Outcome). o .entries) same)
+    (p .tells ∙ ap (λ (o : Outcome). countsFrom (labelledTold (o .answer))) same ∙ sym (q .tells), ap (λ (o : Outcome). o .work) same, ap (λ (o : Outcome). o .components) same, ap (λ (o : Outcome). o .entries) same)
 
 pub determined : (i : Input) (work components entries : List ℕ) (t u : Counts) (w v c d e f : List ℕ) → LabelTold i work components entries t w c e → LabelTold i work components entries u v d f → (t ≡ u) × (w ≡ v) × (c ≡ d) × (e ≡ f)
 determined i work components entries = told-once _ (labelled.determined i work components entries)

@@ -1,30 +1,24 @@
--- An answer as numbers that cross the boundary to C.
-use mathlib.Core.Bool.{Bool, true, false}
+-- The structs that cross the boundary to C: each is an answer in document 01's numbers, field by field. And the parameters, which cross one
+-- by one.
+use mathlib.Core.Bool.{cond}
 use mathlib.Core.List.{List}
 use mathlib.Core.Path.{_≡_}
 use Prim.Native.Nat.{ℕ}
-use lib.Ieee.{binary32, ofBits}
-use Rattle.measure.specs.declared.Measured.{Measured}
-use Rattle.measure.specs.declared.Measured.the-variants.{Known, Refused}
-use Rattle.measure.specs.declared.Distance.{Distance}
-use Rattle.measure.specs.declared.Distance.the-variants as distance
-use Rattle.refusal.specs.Table.{numberOf, placeOf}
-use Rattle.axis.specs.declared.Cached.{Cached}
-use Rattle.axis.specs.declared.Cached.the-variants as cached
-use Rattle.classify.specs.declared.Classified.{Classified}
-use Rattle.classify.specs.declared.Classified.the-variants as classified
+use lib.Ieee.{Float}
+use Rattle.refusal.specs.InNumbers.{InNumbers}
+use Rattle.axis.specs.declared.AxisCache.{AxisCache}
+use Rattle.classify.specs.declared.EdgeParams.{EdgeParams}
 use Rattle.classify.specs.Call as edges
-use Rattle.quads.specs.declared.Merged.{Merged}
-use Rattle.quads.specs.declared.Merged.the-variants as merged
 use Rattle.quads.specs.Call as pairs
+use Rattle.filter.specs.declared.FilterParams.{FilterParams}
 use Rattle.filter.specs.declared.Filtered.{Filtered}
-use Rattle.filter.specs.declared.Filtered.the-variants as filtered
 use Rattle.filter.specs.Input.{Input}
-use Rattle.filter.specs.Call.{Allowed}
+use Rattle.filter.specs.Call as filters
+use Rattle.fates.specs.declared.LabelParams.{LabelParams}
 use Rattle.walk.specs.declared.Labelled.{Labelled}
-use Rattle.walk.specs.declared.Labelled.the-variants as labelled
 use Rattle.walk.specs.Input as walk
 use Rattle.walk.specs.Call as walk-call
+use Rattle.frame.specs.declared.Params.{Params}
 use Rattle.frame.specs.Stages as frame
 use Rattle.frame.specs.Call as frame-call
 use Rattle.abi.specs.declared.Number.{Number}
@@ -34,27 +28,32 @@ use Rattle.abi.specs.declared.Verdict.{Verdict}
 use Rattle.abi.specs.declared.Count.{Count}
 use Rattle.abi.specs.declared.Counts.{Counts}
 
-abbrev pub numberFrom : Measured → Number
-numberFrom (Known x) = record { refused = 0; place = 0; value = x }
-numberFrom (Refused why) = record { refused = numberOf why; place = placeOf why; value = ofBits binary32 0 }
+abbrev pub numberFrom : InNumbers Float → Number
+numberFrom t = record { refused = t .refused; place = t .place; value = t .values }
 
-abbrev pub apartFrom : Distance → Apart
-apartFrom (distance.Known x) = record { known = 1; value = x }
-apartFrom distance.Missing = record { known = 0; value = ofBits binary32 0 }
+abbrev pub apartFrom : ℕ × Float → Apart
+apartFrom d = record { known = d .0; value = d .1 }
 
-abbrev pub wordFrom : Bool → ℕ
-wordFrom true = 1
-wordFrom false = 0
+-- an informative axis is told as 1
+abbrev pub cacheFrom : InNumbers AxisCache → Cache
+cacheFrom t =
+    record {
+      refused = t .refused;
+      place = t .place;
+      angle0 = t .values .angle0;
+      informative0 = cond (t .values .informative0) 1 0;
+      angle1 = t .values .angle1;
+      informative1 = cond (t .values .informative1) 1 0;
+    }
 
-abbrev pub cacheFrom : Cached → Cache
-cacheFrom (cached.Known c) =
-    record { refused = 0; place = 0; angle0 = c .angle0; informative0 = wordFrom (c .informative0); angle1 = c .angle1; informative1 = wordFrom (c .informative1) }
-cacheFrom (cached.Refused why) =
-    record { refused = numberOf why; place = placeOf why; angle0 = ofBits binary32 0; informative0 = 0; angle1 = ofBits binary32 0; informative1 = 0 }
+abbrev pub verdictFrom : InNumbers Unit → Verdict
+verdictFrom t = record { refused = t .refused; place = t .place }
 
-abbrev pub verdictFrom : Classified → Verdict
-verdictFrom classified.Done = record { refused = 0; place = 0 }
-verdictFrom (classified.Refused why) = record { refused = numberOf why; place = placeOf why }
+abbrev pub countFrom : InNumbers ℕ → Count
+countFrom t = record { refused = t .refused; place = t .place; count = t .values }
+
+abbrev pub countsFrom : InNumbers (ℕ × ℕ) → Counts
+countsFrom t = record { refused = t .refused; place = t .place; components = t .values .0; entries = t .values .1 }
 
 -- what is told of the classes, and the class list after
 pub record ClassesTold : Type 0 where
@@ -62,11 +61,7 @@ pub record ClassesTold : Type 0 where
   pub classes : List ℕ
 
 abbrev pub classesTold : edges.Outcome → ClassesTold
-classesTold o = record { told = verdictFrom (o .answer); classes = o .classes }
-
-abbrev pub madeFrom : Merged → Count
-madeFrom (merged.Done n) = record { refused = 0; place = 0; count = n }
-madeFrom (merged.Refused why) = record { refused = numberOf why; place = placeOf why; count = 0 }
+classesTold o = record { told = verdictFrom (edges.classifiedTold (o .answer)); classes = o .classes }
 
 -- what is told of the quads, and the quad list after
 pub record QuadsTold : Type 0 where
@@ -74,26 +69,18 @@ pub record QuadsTold : Type 0 where
   pub quads : List ℕ
 
 abbrev pub quadsTold : pairs.Outcome → QuadsTold
-quadsTold o = record { told = madeFrom (o .answer); quads = o .quads }
-
-abbrev pub countFrom : Filtered → Count
-countFrom (filtered.Done n) = record { refused = 0; place = 0; count = n }
-countFrom (filtered.Refused why) = record { refused = numberOf why; place = placeOf why; count = 0 }
+quadsTold o = record { told = countFrom (pairs.mergedTold (o .answer)); quads = o .quads }
 
 -- what is told of the filters, and both lists after, are an outcome that the call allows
 pub record FilterTold (i : Input) (work kept : List ℕ) (told : Count) (workAfter keptAfter : List ℕ) : Type 0 where
   pub answer : Filtered
-  pub tells : told ≡ countFrom answer
-  pub allowed : Allowed i work kept (record { answer = answer; work = workAfter; kept = keptAfter })
-
-abbrev pub countsFrom : Labelled → Counts
-countsFrom (labelled.Done m n) = record { refused = 0; place = 0; components = m; entries = n }
-countsFrom (labelled.Refused why) = record { refused = numberOf why; place = placeOf why; components = 0; entries = 0 }
+  pub tells : told ≡ countFrom (filters.filteredTold answer)
+  pub allowed : filters.Allowed i work kept (record { answer = answer; work = workAfter; kept = keptAfter })
 
 -- what is told, and the three lists after, are an outcome that is allowed
 pub record CountsTold (allows : walk-call.Outcome → Type 0) (told : Counts) (workAfter componentsAfter entriesAfter : List ℕ) : Type 0 where
   pub answer : Labelled
-  pub tells : told ≡ countsFrom answer
+  pub tells : told ≡ countsFrom (walk-call.labelledTold answer)
   pub allowed : allows (record { answer = answer; work = workAfter; components = componentsAfter; entries = entriesAfter })
 
 -- of the labelling, and of a whole frame
@@ -102,3 +89,17 @@ LabelTold i work components entries = CountsTold (walk-call.Allowed i work compo
 
 abbrev pub FrameTold : (i : frame.Input) (work components entries : List ℕ) → Counts → List ℕ → List ℕ → List ℕ → Type 0
 FrameTold i work components entries = CountsTold (frame-call.Allowed i work components entries)
+
+-- the parameters of each call
+abbrev pub edgesBy : (tolerance limit : Float) → EdgeParams
+edgesBy tolerance limit = record { tolerance = tolerance; spread = record { limit = limit } }
+
+abbrev pub filtersBy : (ratio least greatest : Float) → FilterParams
+filtersBy ratio least greatest = record { ratio = ratio; least = least; greatest = greatest }
+
+abbrev pub labelsBy : (quads corners : ℕ) → LabelParams
+labelsBy quads corners = record { quads = quads; corners = corners }
+
+abbrev pub paramsBy : (tolerance ratio least greatest limit : Float) (quads corners : ℕ) → Params
+paramsBy tolerance ratio least greatest limit quads corners =
+    record { edges = edgesBy tolerance limit; filters = filtersBy ratio least greatest; labels = labelsBy quads corners }

@@ -4,10 +4,16 @@ ghost use mathlib.Core.Path.{_≡_};
 ghost use Rattle.measure.specs.Angle.{angleOf};
 ghost use Rattle.measure.specs.Distance.{distanceOf};
 ghost use Rattle.measure.specs.RootComputed.{rootOf};
-ghost use Rattle.axis.specs.Cache.{cacheCall, spreadFrom};
+ghost use Rattle.measure.specs.Answers.{measuredTold, distanceTold};
+ghost use Rattle.axis.specs.Cache.{cacheCall, spreadFrom, cachedTold};
+ghost use Rattle.classify.specs.Classes as classing;
 ghost use Rattle.classify.specs.Call as edges;
+ghost use Rattle.quads.specs.Merge as merge;
 ghost use Rattle.quads.specs.Call as pairs;
-ghost use Rattle.abi.specs.Answers.{numberFrom, apartFrom, cacheFrom, ClassesTold, classesTold, QuadsTold, quadsTold, FilterTold, LabelTold, FrameTold};
+ghost use Rattle.filter.specs.Input as filters;
+ghost use Rattle.walk.specs.Input as labels;
+ghost use Rattle.frame.specs.Stages as stages;
+ghost use Rattle.abi.specs.Answers.{numberFrom, apartFrom, cacheFrom, ClassesTold, classesTold, QuadsTold, quadsTold, FilterTold, LabelTold, FrameTold, edgesBy, filtersBy, labelsBy, paramsBy};
 use axis::SpreadRule;
 use axis::inner::spread_from;
 use params::edge_params;
@@ -78,21 +84,21 @@ pub struct Counts {
 
 #[no_mangle]
 pub extern "C" fn ngeunsadok_root(x: f32) -> Number
-    ensures { λ r. ⌜ r ≡ numberFrom (rootOf x) ⌝ }
+    ensures { λ r. ⌜ r ≡ numberFrom (measuredTold (rootOf x)) ⌝ }
 {
     tell_number(measure::root(x))
 }
 
 #[no_mangle]
 pub extern "C" fn ngeunsadok_angle(dx: f32, dy: f32) -> Number
-    ensures { λ r. ⌜ r ≡ numberFrom (angleOf dx dy) ⌝ }
+    ensures { λ r. ⌜ r ≡ numberFrom (measuredTold (angleOf dx dy)) ⌝ }
 {
     tell_number(measure::angle(dx, dy))
 }
 
 #[no_mangle]
 pub extern "C" fn ngeunsadok_distance(angle: f32, axis: f32) -> Apart
-    ensures { λ r. ⌜ r ≡ apartFrom (distanceOf angle axis) ⌝ }
+    ensures { λ r. ⌜ r ≡ apartFrom (distanceTold (distanceOf angle axis)) ⌝ }
 {
     tell_distance(measure::axis_distance(angle, axis))
 }
@@ -108,7 +114,7 @@ pub extern "C" fn ngeunsadok_axis_cache(
     spread1: f32,
     limit: f32,
 ) -> Cache
-    ensures { λ r. ⌜ r ≡ cacheFrom (cacheCall (record { limit = limit }) angle0 (spreadFrom marked0 spread0) angle1 (spreadFrom marked1 spread1)) ⌝ }
+    ensures { λ r. ⌜ r ≡ cacheFrom (cachedTold (cacheCall (record { limit = limit }) angle0 (spreadFrom marked0 spread0) angle1 (spreadFrom marked1 spread1))) ⌝ }
 {
     let first = spread_from(marked0, spread0);
     let second = spread_from(marked1, spread1);
@@ -128,7 +134,7 @@ pub extern "C" fn ngeunsadok_classify_all_edges(
     classes: &mut [u32],
 ) -> Verdict
     ensures { λ r. ⌜ _≡_ {A = ClassesTold} (record { told = r; classes = now (classes .exit) })
-        (classesTold (edges.callOf (record { xs = now (x .entry); ys = now (y .entry); angles = now (angles .entry); marks = now (marks .entry); spreads = now (spreads .entry); triangles = now (triangles .entry); params = record { tolerance = tolerance; spread = record { limit = limit } } }) (now (classes .entry)))) ⌝ }
+        (classesTold (edges.callOf (classing.given (x .entry) (y .entry) (angles .entry) (marks .entry) (spreads .entry) (triangles .entry) (edgesBy tolerance limit)) (now (classes .entry)))) ⌝ }
 {
     let params = edge_params(tolerance, limit);
     tell_classified(classify::classify_all_edges(
@@ -153,7 +159,7 @@ pub extern "C" fn ngeunsadok_merge_triangle_pairs(
     quads: &mut [u32],
 ) -> Count
     ensures { λ r. ⌜ _≡_ {A = QuadsTold} (record { told = r; quads = now (quads .exit) })
-        (quadsTold (pairs.callOf (record { xs = now (x .entry); ys = now (y .entry); mesh = record { triangles = now (triangles .entry); twins = now (twins .entry); classes = now (classes .entry) } }) (now (quads .entry)))) ⌝ }
+        (quadsTold (pairs.callOf (merge.given (x .entry) (y .entry) (triangles .entry) (twins .entry) (classes .entry)) (now (quads .entry)))) ⌝ }
 {
     tell_merged(quads::merge_triangle_pairs(x, y, triangles, twins, classes, quads))
 }
@@ -169,7 +175,7 @@ pub extern "C" fn ngeunsadok_filter_quads(
     work: &mut [u32],
     kept: &mut [u32],
 ) -> Count
-    ensures { λ r. ⌜ FilterTold (record { xs = now (x .entry); ys = now (y .entry); quads = now (quads .entry); params = record { ratio = ratio; least = least; greatest = greatest } }) (now (work .entry)) (now (kept .entry)) r (now (work .exit)) (now (kept .exit)) ⌝ }
+    ensures { λ r. ⌜ FilterTold (filters.given (x .entry) (y .entry) (quads .entry) (filtersBy ratio least greatest)) (now (work .entry)) (now (kept .entry)) r (now (work .exit)) (now (kept .exit)) ⌝ }
 {
     let params = filter_params(ratio, least, greatest);
     tell_filtered(filter::filter_quads(x, y, quads, params, work, kept))
@@ -185,7 +191,9 @@ pub extern "C" fn ngeunsadok_label_components(
     components: &mut [u32],
     entries: &mut [u32],
 ) -> Counts
-    ensures { λ r. ⌜ LabelTold (record { quads = now (quads .entry); corners = corners; params = record { quads = leastquads; corners = leastcorners } }) (now (work .entry)) (now (components .entry)) (now (entries .entry)) r (now (work .exit)) (now (components .exit)) (now (entries .exit)) ⌝ }
+    ensures { λ r. ⌜ LabelTold (labels.given (quads .entry) corners (labelsBy leastquads leastcorners))
+        (now (work .entry)) (now (components .entry)) (now (entries .entry))
+        r (now (work .exit)) (now (components .exit)) (now (entries .exit)) ⌝ }
 {
     let params = label_params(leastquads, leastcorners);
     tell_labelled(walk::label_components(quads, corners, params, work, components, entries))
@@ -211,7 +219,9 @@ pub extern "C" fn ngeunsadok_label_frame(
     components: &mut [u32],
     entries: &mut [u32],
 ) -> Counts
-    ensures { λ r. ⌜ FrameTold (record { xs = now (x .entry); ys = now (y .entry); angles = now (angles .entry); marks = now (marks .entry); spreads = now (spreads .entry); triangles = now (triangles .entry); twins = now (twins .entry); params = record { edges = record { tolerance = tolerance; spread = record { limit = limit } }; filters = record { ratio = ratio; least = least; greatest = greatest }; labels = record { quads = leastquads; corners = leastcorners } } }) (now (work .entry)) (now (components .entry)) (now (entries .entry)) r (now (work .exit)) (now (components .exit)) (now (entries .exit)) ⌝ }
+    ensures { λ r. ⌜ FrameTold (stages.given (x .entry) (y .entry) (angles .entry) (marks .entry) (spreads .entry) (triangles .entry) (twins .entry) (paramsBy tolerance ratio least greatest limit leastquads leastcorners))
+        (now (work .entry)) (now (components .entry)) (now (entries .entry))
+        r (now (work .exit)) (now (components .exit)) (now (entries .exit)) ⌝ }
 {
     let edges = edge_params(tolerance, limit);
     let filters = filter_params(ratio, least, greatest);

@@ -1,5 +1,6 @@
 // The parameters of the calls, made of numbers that cross the boundary one by one.
 ghost use mathlib.Core.Path.{_≡_};
+ghost use Rattle.abi.specs.Answers.{edgesBy, filtersBy, labelsBy};
 use axis::SpreadRule;
 use classify::EdgeParams;
 use fates::LabelParams;
@@ -7,7 +8,7 @@ use filter::FilterParams;
 use frame::Params;
 
 pub(crate) fn edge_params(tolerance: f32, limit: f32) -> EdgeParams
-    ensures { λ r. ⌜ r ≡ record { tolerance = tolerance; spread = record { limit = limit } } ⌝ }
+    ensures { λ r. ⌜ r ≡ edgesBy tolerance limit ⌝ }
 {
     EdgeParams {
         tolerance,
@@ -16,7 +17,7 @@ pub(crate) fn edge_params(tolerance: f32, limit: f32) -> EdgeParams
 }
 
 pub(crate) fn filter_params(ratio: f32, least: f32, greatest: f32) -> FilterParams
-    ensures { λ r. ⌜ r ≡ record { ratio = ratio; least = least; greatest = greatest } ⌝ }
+    ensures { λ r. ⌜ r ≡ filtersBy ratio least greatest ⌝ }
 {
     FilterParams {
         ratio,
@@ -26,7 +27,7 @@ pub(crate) fn filter_params(ratio: f32, least: f32, greatest: f32) -> FilterPara
 }
 
 pub(crate) fn label_params(quads: u32, corners: u32) -> LabelParams
-    ensures { λ r. ⌜ r ≡ record { quads = quads; corners = corners } ⌝ }
+    ensures { λ r. ⌜ r ≡ labelsBy quads corners ⌝ }
 {
     LabelParams { quads, corners }
 }

@@ -1,6 +1,13 @@
 // The answers of the calls as numbers that cross the boundary, each by its definition.
+ghost use mathlib.Core.Bool.{cond};
 ghost use mathlib.Core.Path.{_≡_};
-ghost use Rattle.abi.specs.Answers.{numberFrom, apartFrom, wordFrom, cacheFrom, verdictFrom, madeFrom, countFrom, countsFrom};
+ghost use Rattle.measure.specs.Answers.{measuredTold, distanceTold};
+ghost use Rattle.axis.specs.Cache.{cachedTold};
+ghost use Rattle.classify.specs.Call.{classifiedTold};
+ghost use Rattle.quads.specs.Call.{mergedTold};
+ghost use Rattle.filter.specs.Call.{filteredTold};
+ghost use Rattle.walk.specs.Call.{labelledTold};
+ghost use Rattle.abi.specs.Answers.{numberFrom, apartFrom, cacheFrom, verdictFrom, countFrom, countsFrom};
 use crate::Apart;
 use crate::Cache;
 use crate::Count;
@@ -16,7 +23,7 @@ use quads::Merged;
 use walk::Labelled;
 
 pub(crate) fn tell_number(answer: Measured) -> Number
-    ensures { λ r. ⌜ r ≡ numberFrom answer ⌝ }
+    ensures { λ r. ⌜ r ≡ numberFrom (measuredTold answer) ⌝ }
 {
     match answer {
         Measured::Known(x) => Number {
@@ -33,7 +40,7 @@ pub(crate) fn tell_number(answer: Measured) -> Number
 }
 
 pub(crate) fn tell_distance(answer: Distance) -> Apart
-    ensures { λ r. ⌜ r ≡ apartFrom answer ⌝ }
+    ensures { λ r. ⌜ r ≡ apartFrom (distanceTold answer) ⌝ }
 {
     match answer {
         Distance::Known(x) => Apart { known: 1, value: x },
@@ -45,13 +52,13 @@ pub(crate) fn tell_distance(answer: Distance) -> Apart
 }
 
 fn word_from(flag: bool) -> u32
-    ensures { λ r. ⌜ r ≡ wordFrom flag ⌝ }
+    ensures { λ r. ⌜ r ≡ cond flag 1 0 ⌝ }
 {
     if flag { 1 } else { 0 }
 }
 
 pub(crate) fn tell_cache(answer: Cached) -> Cache
-    ensures { λ r. ⌜ r ≡ cacheFrom answer ⌝ }
+    ensures { λ r. ⌜ r ≡ cacheFrom (cachedTold answer) ⌝ }
 {
     match answer {
         Cached::Known(cache) => Cache {
@@ -74,7 +81,7 @@ pub(crate) fn tell_cache(answer: Cached) -> Cache
 }
 
 pub(crate) fn tell_classified(answer: Classified) -> Verdict
-    ensures { λ r. ⌜ r ≡ verdictFrom answer ⌝ }
+    ensures { λ r. ⌜ r ≡ verdictFrom (classifiedTold answer) ⌝ }
 {
     match answer {
         Classified::Done => Verdict {
@@ -89,7 +96,7 @@ pub(crate) fn tell_classified(answer: Classified) -> Verdict
 }
 
 pub(crate) fn tell_merged(answer: Merged) -> Count
-    ensures { λ r. ⌜ r ≡ madeFrom answer ⌝ }
+    ensures { λ r. ⌜ r ≡ countFrom (mergedTold answer) ⌝ }
 {
     match answer {
         Merged::Done(count) => Count {
@@ -106,7 +113,7 @@ pub(crate) fn tell_merged(answer: Merged) -> Count
 }
 
 pub(crate) fn tell_filtered(answer: Filtered) -> Count
-    ensures { λ r. ⌜ r ≡ countFrom answer ⌝ }
+    ensures { λ r. ⌜ r ≡ countFrom (filteredTold answer) ⌝ }
 {
     match answer {
         Filtered::Done(count) => Count {
@@ -123,7 +130,7 @@ pub(crate) fn tell_filtered(answer: Filtered) -> Count
 }
 
 pub(crate) fn tell_labelled(answer: Labelled) -> Counts
-    ensures { λ r. ⌜ r ≡ countsFrom answer ⌝ }
+    ensures { λ r. ⌜ r ≡ countsFrom (labelledTold answer) ⌝ }
 {
     match answer {
         Labelled::Done(components, entries) => Counts {

@@ -1,5 +1,5 @@
 -- Document 01, "Axis cache": one record per corner with its two angles and two informative marks.
-use mathlib.Core.Bool.{Bool, true, cond, _&&_}
+use mathlib.Core.Bool.{Bool, true, false, cond, _&&_}
 use mathlib.Core.List.{List}
 use Prim.Native.Nat.{ℕ, _+_, _*_}
 use lib.Dec.{eqb}
@@ -7,6 +7,8 @@ use lib.Ieee as Ieee
 use lib.Ieee.{Float, nan}
 use lib.Ieee.Scale.{finite}
 use lib.ListN.{getD}
+use Rattle.refusal.specs.InNumbers.{InNumbers, gives, refuses}
+use Rattle.measure.specs.Float.{bits}
 use Rattle.measure.specs.Parameter.{parameterRow}
 use Rattle.refusal.specs.declared.Gate.{Gate}
 use Rattle.refusal.specs.declared.Gate.the-variants.{Open, Shut}
@@ -44,3 +46,8 @@ cachedBy (Shut why) cache = Refused why
 
 unfoldable pub cacheCall : SpreadRule → Float → Spread → Float → Spread → Cached
 cacheCall rule angle0 spread0 angle1 spread1 = cachedBy (parameterRow (rule .limit) 4) (cacheOf rule angle0 spread0 angle1 spread1)
+
+-- the answer in 01's numbers
+abbrev pub cachedTold : Cached → InNumbers AxisCache
+cachedTold (Known cache) = gives cache
+cachedTold (Refused why) = refuses (record { angle0 = bits 0; angle1 = bits 0; informative0 = false; informative1 = false }) why

@@ -8,7 +8,7 @@ use native.Mathlib.Omega.{arith}
 use lib.ListN.{getD}
 use Rattle.cells.specs.Groups.{Linked, Groups}
 use Rattle.cells.specs.Groups.Linked.{same, on}
-use Rattle.cells.specs.Forest.{Joined, Alone, Flat, Classes}
+use Rattle.cells.specs.inner.Forest.{Joined, Alone, Flat, Classes}
 use Rattle.cells.proofs.Links.{fold, kept}
 
 -- with no pair

@@ -10,9 +10,9 @@ use lib.Dec.{eqb, ltb}
 use lib.IntN.{pos}
 use lib.ListN.{length}
 use Rattle.cells.specs.Cells.{Has}
-use Rattle.cells.specs.Kind.{Pair, _⊕_, Fits, Lone}
+use Rattle.cells.specs.Kind.{Pair, _⊕_, Lone}
 use Rattle.cells.specs.Quads.{quads}
-use Rattle.cells.specs.Listed.{In, Entry, Listed, Grouping, members, Component, Dropped, Components, Labelling}
+use Rattle.cells.specs.Listed.{In, Entry, Listed, Grouping, members, Component, Dropped, Components}
 use Rattle.cells.specs.Listed.In.{first, later}
 use Rattle.cells.specs.Listed.Dropped.{few-cells, no-labelling, few-corners}
 use Rattle.cells.specs.Listed.Components.{start, within, dropped, kept}
@@ -22,6 +22,7 @@ use Rattle.cells.proofs.Whole.{pair}
 use Rattle.cells.proofs.Tests.{never, implied, implies, every-in, in-every, Made, map-in, in-map, not-in}
 use Rattle.cells.proofs.Twin.{same-pair-is, is-same-pair, Solved, Solves, solve-is}
 use Rattle.cells.proofs.Twin.Solves.{solved, unsolved}
+use Rattle.cells.proofs.Squares.{no-crowd}
 use Rattle.cells.proofs.Lowest.{reaches, stands, none-over}
 use Rattle.cells.proofs.Inserted.{order-in, in-the-order, order-sorted}
 
@@ -133,17 +134,13 @@ module _ (cells : List ℕ) (g : Grouping) where
     stays : {es : List Entry} → Component quads cells g s es → Becomes s (some es)
     goes : Dropped quads cells g s → Becomes s none
 
-  -- of quads no three are a crowd
-  labelled : (s : ℕ) {L : ℕ → Pair} → Fits quads cells s L → Labelling quads cells g s L
-  labelled s f = record { clear = record { clear = λ p q r a b c d e f h i j crowd. crowd }; fits = f }
-
   module _ (s : ℕ) (enough : g .least-cells ≤ members quads cells g s) where
     long-is : (rs : List Reading) → Solved cells s rs → Becomes s (long-enough cells g (listing rs))
     long-is rs z = go (ltb (length (listing rs)) (g .least-corners)) refl
       where
         go : (b : Bool) → ltb (length (listing rs)) (g .least-corners) ≡ b → Becomes s (cond b none (some (listing rs)))
-        go true e = goes (few-corners enough (label rs) (labelled s (z .fits)) (listing rs) (listing-is cells s rs z) (ltb-true _ _ e))
-        go false e = stays (record { enough = enough; L = label rs; labelling = labelled s (z .fits); listed = listing-is cells s rs z; corners = ltb-false _ _ e })
+        go true e = goes (few-corners enough (label rs) (no-crowd (z .fits)) (listing rs) (listing-is cells s rs z) (ltb-true _ _ e))
+        go false e = stays (record { enough = enough; L = label rs; labelling = no-crowd (z .fits); listed = listing-is cells s rs z; corners = ltb-false _ _ e })
 
     from-is : (o : Option (List Reading)) → Solves cells s o → Becomes s (from-readings cells g o)
     from-is none (unsolved h) = goes (no-labelling enough (λ L l. h L (l .fits)))

@@ -4,11 +4,11 @@ use mathlib.Core.Bool.{Bool, true}
 use mathlib.Core.List.{List, map}
 use Prim.Native.Nat.{ℕ}
 use native.Mathlib.Omega.{arith}
-use Rattle.words.specs.Sorting.{equal, one}
 use Rattle.cells.specs.Quads.{quads}
 use Rattle.cells.specs.Listed.{In, Entry, Components}
 use Rattle.cells.specs.Listed.In.{first, later}
-use Rattle.cells.specs.Holes.{holes, places, total, width, height, held}
+use Rattle.cells.specs.Sums.{total}
+use Rattle.cells.specs.Holes.{holes, places, width, height, held}
 use Rattle.cells.specs.Computed.{computed}
 use Rattle.cells.specs.Check.{groups-test}
 use Rattle.cells.specs.Example.{Told, Example, grouping, Says, examples}
@@ -42,5 +42,5 @@ example-says x e = record {
 }
 
 pub examples-say : (x : Example) → In x examples → Says x
-unfolding equal one holes places total width height held
+unfolding holes places total width height held
 examples-say x i = example-says x (same-made found told {xs = examples} refl i)

@@ -6,11 +6,11 @@ use Prim.Native.Nat.{ℕ, _+_, _*_, _/_, _%_, _≤_, _<_}
 use native.Mathlib.Nat.{mul-le-mul-right, mod-lt}
 use native.Mathlib.Omega.{arith}
 use lib.ListN.{length}
-use Rattle.words.specs.Order.{Room, Ordered, keyOf}
+use Rattle.words.specs.inner.Order.{Room, Ordered, keyOf}
 use Rattle.words.proofs.Cuts.{ascends}
 use Rattle.cells.specs.Cells.{cell}
-use Rattle.cells.specs.Table.{unmarked, tableAt, spareAt, groupsEnd, Sound}
-use Rattle.cells.specs.Sides.{keyAt, numberAt, sideKey, tableKey, Stands, Tabled, Tabulated}
+use Rattle.cells.specs.inner.Table.{unmarked, tableAt, spareAt, groupsEnd, Sound}
+use Rattle.cells.specs.inner.Sides.{keyAt, numberAt, sideKey, tableKey, Stands, Tabled, Tabulated}
 use Rattle.cells.proofs.Places.{cell-before, place-below, some-place}
 use Rattle.cells.proofs.Keys.{small-key}
 

@@ -8,7 +8,7 @@ use native.Mathlib.Nat.{mod-eq-of-lt}
 use native.Mathlib.Decide.{ℕ-discrete}
 use native.Mathlib.Omega.{arith}
 use lib.ListN.{getD}
-use Rattle.cells.specs.Sides.{endsKey, sideKey}
+use Rattle.cells.specs.inner.Sides.{endsKey, sideKey}
 
 pub side-key-is : (size : ℕ) (cells : List ℕ) (q i next : ℕ) → i < size → next ≡ (i + 1) % size → endsKey (getD cells (size * q + i) 0) (getD cells (size * q + next) 0) ≡ sideKey size cells q i
 side-key-is size cells q i next h e =

@@ -2,6 +2,7 @@ pub mod Links
 pub mod Parents
 pub mod Classes
 pub mod Groups
+pub mod Sums
 pub mod NoMore
 pub mod Counted
 pub mod Places
@@ -9,7 +10,7 @@ pub mod Keys
 pub mod Tables
 pub mod InOrder
 pub mod Part
-pub mod Near
+pub mod Adjacent
 pub mod Touching
 pub mod Whole
 pub mod Unique

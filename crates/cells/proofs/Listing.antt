@@ -16,6 +16,11 @@ use Rattle.cells.proofs.Tests.{not-in}
 
 -- ---- lists in order
 
+-- two entries of which one is before the other have two places
+pub apart : {e f : Entry} → Before e f → e .u ≡ f .u → e .v ≡ f .v → ⊥
+apart (by-u a) p q = omega arith
+apart (by-v a b) p q = omega arith
+
 one-way : {e f : Entry} → Before e f → Before f e → ⊥
 one-way (by-u a) (by-u b) = omega arith
 one-way (by-u a) (by-v b c) = omega arith
@@ -26,7 +31,7 @@ one-way (by-v a b) (by-v c d) = omega arith
 cut : {x e f : Entry} {es fs : List Entry} → e ≡ f → ((y : Entry) → In y es → Before e y) → In x es → In x (f ∷ fs) → In x fs
 cut {x} {e} q o i (first p) =
     let r : Before e e = subst (Before e) (p ∙ sym q) (o x i) in
-    absurd (one-way r r)
+    absurd (apart r refl refl)
 cut q o i (later j) = j
 
 heads : {e f : Entry} {es fs : List Entry} → ((y : Entry) → In y es → Before e y) → ((y : Entry) → In y fs → Before f y) → In e (f ∷ fs) → In f (e ∷ es) → e ≡ f

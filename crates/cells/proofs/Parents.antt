@@ -12,7 +12,7 @@ use lib.Seq.{getD-set-same, getD-set-other}
 use Rattle.words.proofs.Regions.{set-cases}
 use Rattle.cells.specs.Groups.{Linked}
 use Rattle.cells.specs.Groups.Linked.{same, on, back}
-use Rattle.cells.specs.Forest.{Low, Ptr, PtrOr, Respects, Refines, Found, Joined, Alone, Flat}
+use Rattle.cells.specs.inner.Forest.{Low, Ptr, PtrOr, Respects, Refines, Found, Joined, Alone, Flat}
 use Rattle.cells.proofs.Links.{joined, turned, fold, kept}
 
 pub refines-refl : (p : List ℕ) → Low p → Refines p p

@@ -6,9 +6,9 @@ use native.Mathlib.Omega.{arith}
 use lib.ListN.{length, getD, take}
 use lib.Seq.{take-at, drop-at, length-take-le}
 use borrow.Rule.Slice.PartMut.{putMid, postOf, mid-len}
-use Rattle.words.specs.Regions.{Kept}
+use Rattle.words.specs.inner.Regions.{Kept}
 use Rattle.words.proofs.Regions.{part-in, part-kept}
-use Rattle.cells.specs.Sides.{groupsOf}
+use Rattle.cells.specs.inner.Sides.{groupsOf}
 
 pub groups-length : (n : ℕ) (ys : List ℕ) → 2 * n ≤ length ys → length (groupsOf n ys) ≡ n
 groups-length n ys h = mid-len n (2 * n) ys h ∙ omega arith

@@ -1,5 +1,5 @@
 -- The laws of quads: a unit square is one from each of its corners, two pairs of it force the others, and so a quad's pairs are forced
--- across a side. An assignment fits exactly when the seed reads and every reached quad goes round. Assumes nothing.
+-- across a side. An assignment fits exactly when the seed reads and every reached quad goes round, and is then a labelling. Assumes nothing.
 use mathlib.Core.Path.{_≡_, refl, sym, ap, ap₂, _∙_, subst}
 use mathlib.Core.List.{List}
 use Prim.Native.Nat.{ℕ, zero, suc, _+_, _%_, _<_}
@@ -10,6 +10,7 @@ use lib.IntN.{ℤ, pos, negℤ, _-ℤ_}
 use Rattle.cells.specs.Cells.{Cell, Side, Touch, cell}
 use Rattle.cells.specs.Kind.{Pair, _⊕_, _⊖_, origin, Reached, Fits}
 use Rattle.cells.specs.Kind.Chain.{here, on}
+use Rattle.cells.specs.Listed.{Grouping, Labelling}
 use Rattle.cells.specs.Quads.{turn, OneStep, Square, Round, quads}
 use Rattle.cells.specs.Quads.OneStep.{east, north, west, south}
 use Rattle.cells.proofs.Whole.{sum, opp, of, to, minus, pair, of-0, of-1}
@@ -122,3 +123,7 @@ module _ (cells : List ℕ) where
 
   pub fits-round : {s : ℕ} {L : ℕ → Pair} → ((i : ℕ) → i < 4 → L (cell 4 cells s i) ≡ getD (quads .first) i origin) → ((q : ℕ) → Reached quads cells s q → Round L (cell 4 cells q)) → Fits quads cells s L
   fits-round a b = record { reads = a; holds = λ p q r n. b q (on r n) }
+
+-- no three quads are a crowd
+pub no-crowd : {cells : List ℕ} {g : Grouping} {s : ℕ} {L : ℕ → Pair} → Fits quads cells s L → Labelling quads cells g s L
+no-crowd f = record { clear = record { clear = λ p q r hp hq hr ep eq er pq qr pr crowd. crowd }; fits = f }

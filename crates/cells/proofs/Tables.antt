@@ -8,11 +8,11 @@ use native.Mathlib.Decide.{ℕ-discrete}
 use native.Mathlib.Omega.{arith}
 use lib.Dec.{eqb}
 use lib.ListN.{length}
-use Rattle.words.specs.Regions.{two}
+use Rattle.words.specs.inner.Regions.{two}
 use Rattle.words.proofs.Regions.{kept-refl}
 use Rattle.words.proofs.Moving.{two-cases, two-past, two-kept}
-use Rattle.cells.specs.Table.{tableAt, groupsEnd}
-use Rattle.cells.specs.Sides.{sideKey, tableKey, Stands, Tabled}
+use Rattle.cells.specs.inner.Table.{tableAt, groupsEnd}
+use Rattle.cells.specs.inner.Sides.{sideKey, tableKey, Stands, Tabled}
 use Rattle.cells.proofs.Places.{cell-before, own-place}
 
 pub tabled-none : (size : ℕ) (cells : List ℕ) (n : ℕ) (xs : List ℕ) (t : ℕ) → t ≡ 0 → Tabled size cells n xs xs t

@@ -12,14 +12,14 @@ use Rattle.cells.specs.Cells.{cell, Side, Touch, Has, Neighbours}
 use Rattle.cells.specs.Cells.Touch.{alike, opposite}
 use Rattle.cells.specs.Groups.{Linked}
 use Rattle.cells.specs.Groups.Linked.{same, on}
-use Rattle.cells.specs.Table.{unmarked, groupsEnd, Sound}
-use Rattle.cells.specs.Sides.{keyAt, numberAt, sideKey, Stands, InTable, Tabulated, Near, Ready, Named, Grouped}
+use Rattle.cells.specs.inner.Table.{unmarked, groupsEnd, Sound}
+use Rattle.cells.specs.inner.Sides.{keyAt, numberAt, sideKey, Stands, InTable, Tabulated, Adjacent, Ready, Named, Grouped}
 use Rattle.cells.proofs.Links.{turned}
 use Rattle.cells.proofs.Groups.{same-groups}
 use Rattle.cells.proofs.Places.{cell-before, next-corner}
 use Rattle.cells.proofs.Keys.{equal-ends, turned-ends, proper-key}
 use Rattle.cells.proofs.InOrder.{corner-small}
-use Rattle.cells.proofs.Near.{same-word}
+use Rattle.cells.proofs.Adjacent.{same-word}
 
 -- a key that is not 0 is that of a cell that takes part
 takes-part : (takes : Bool) (key : ℕ) → (cond takes key 0 ≡ 0 → ⊥) → (takes ≡ true) × (cond takes key 0 ≡ key)
@@ -64,7 +64,7 @@ module _ (size : ℕ) (cells : List ℕ) (n : ℕ) (xs ys : List ℕ) (S : Sound
         touch = one-key-touch p i q j (s .has) (s .small) (t .has) (t .small) (sym (one .1) ∙ sym (s .key) ∙ e ∙ t .key ∙ two .1);
       }
 
-  near-neighbours : (x y : ℕ) → Near n ys (size * n - 1) x y → Neighbours size cells (unmarked xs) x y
+  near-neighbours : (x y : ℕ) → Adjacent n ys (size * n - 1) x y → Neighbours size cells (unmarked xs) x y
   near-neighbours x y r =
       let s = L .table .is (r .i) (omega (arith, r .small)) in
       let t = L .table .is (r .i + 1) (omega (arith, r .small)) in
@@ -72,7 +72,7 @@ module _ (size : ℕ) (cells : List ℕ) (n : ℕ) (xs ys : List ℕ) (S : Sound
 
   -- ---- along a run of one key all are linked
 
-  run : (d j k : ℕ) → k ≡ j + d → k < size * n → (keyAt n ys j ≡ 0 → ⊥) → keyAt n ys j ≡ keyAt n ys k → Linked (Near n ys (size * n - 1)) (numberAt n ys j / 4) (numberAt n ys k / 4)
+  run : (d j k : ℕ) → k ≡ j + d → k < size * n → (keyAt n ys j ≡ 0 → ⊥) → keyAt n ys j ≡ keyAt n ys k → Linked (Adjacent n ys (size * n - 1)) (numberAt n ys j / 4) (numberAt n ys k / 4)
   run zero j k e h z same-key =
       let s : k ≡ j = omega arith in
       rw s same
@@ -81,18 +81,18 @@ module _ (size : ℕ) (cells : List ℕ) (n : ℕ) (xs ys : List ℕ) (S : Sound
       let up : keyAt n ys j ≤ keyAt n ys (j + d) = L .table .ascends j (j + d) (omega arith) (omega arith) in
       let down : keyAt n ys (j + d) ≤ keyAt n ys k = L .table .ascends (j + d) k (omega arith) h in
       let level : keyAt n ys j ≡ keyAt n ys (j + d) = omega (arith, same-key) in
-      let near : Near n ys (size * n - 1) (numberAt n ys (j + d) / 4) (numberAt n ys k / 4) =
+      let near : Adjacent n ys (size * n - 1) (numberAt n ys (j + d) / 4) (numberAt n ys k / 4) =
       record { i = j + d; small = omega arith; proper = λ w. z (level ∙ w); same = sym level ∙ same-key ∙ ap (keyAt n ys) s; left = refl; right = ap (λ (t : ℕ). numberAt n ys t / 4) s } in
       on (run d j (j + d) refl (omega arith) z level) near
 
-  either-way : (j k : ℕ) → j < size * n → k < size * n → (keyAt n ys j ≡ 0 → ⊥) → keyAt n ys j ≡ keyAt n ys k → Linked (Near n ys (size * n - 1)) (numberAt n ys j / 4) (numberAt n ys k / 4)
+  either-way : (j k : ℕ) → j < size * n → k < size * n → (keyAt n ys j ≡ 0 → ⊥) → keyAt n ys j ≡ keyAt n ys k → Linked (Adjacent n ys (size * n - 1)) (numberAt n ys j / 4) (numberAt n ys k / 4)
   either-way j k hj hk z e = go (decLe j k)
     where
-      go : Dec (j ≤ k) → Linked (Near n ys (size * n - 1)) (numberAt n ys j / 4) (numberAt n ys k / 4)
+      go : Dec (j ≤ k) → Linked (Adjacent n ys (size * n - 1)) (numberAt n ys j / 4) (numberAt n ys k / 4)
       go (yes l) = run (k - j) j k (omega arith) hk z e
       go (no l) = turned (run (j - k) k j (omega arith) hj (λ w. z (e ∙ w)) (sym e))
 
-  one-key-linked : (p i q j : ℕ) → p < n → i < size → q < n → j < size → unmarked xs p ≡ true → unmarked xs q ≡ true → sideKey size cells p i ≡ sideKey size cells q j → Linked (Near n ys (size * n - 1)) p q
+  one-key-linked : (p i q j : ℕ) → p < n → i < size → q < n → j < size → unmarked xs p ≡ true → unmarked xs q ≡ true → sideKey size cells p i ≡ sideKey size cells q j → Linked (Adjacent n ys (size * n - 1)) p q
   one-key-linked p i q j hp hi hq hj mp mq e =
       let s = L .table .at p i hp hi in
       let t = L .table .at q j hq hj in
@@ -107,10 +107,10 @@ module _ (size : ℕ) (cells : List ℕ) (n : ℕ) (xs ys : List ℕ) (S : Sound
   below-n : (q : ℕ) → Has size cells q → q < n
   below-n q h = lt-of-mul-lt-mul-left size (omega (arith, S .whole, S .least))
 
-  neighbours-near : (x y : ℕ) → Neighbours size cells (unmarked xs) x y → Linked (Near n ys (size * n - 1)) x y
+  neighbours-near : (x y : ℕ) → Neighbours size cells (unmarked xs) x y → Linked (Adjacent n ys (size * n - 1)) x y
   neighbours-near x y r = go (r .touch)
     where
-      go : Touch size (cell size cells x) (cell size cells y) → Linked (Near n ys (size * n - 1)) x y
+      go : Touch size (cell size cells x) (cell size cells y) → Linked (Adjacent n ys (size * n - 1)) x y
       go (alike a b) = one-key-linked x (a .at) y (b .at) (below-n x (r .from)) (a .small) (below-n y (r .to)) (b .small) (r .from-among) (r .to-among)
           (rw (a .starts, end x a, b .starts, end y b))
       go (opposite a b) = one-key-linked x (a .at) y (b .at) (below-n x (r .from)) (a .small) (below-n y (r .to)) (b .small) (r .from-among) (r .to-among)

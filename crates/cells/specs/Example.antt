@@ -7,7 +7,7 @@ use lib.ListN.{length, getD}
 use Rattle.cells.specs.Cells.{Neighbours, everyone}
 use Rattle.cells.specs.Groups.{Groups}
 use Rattle.cells.specs.Quads.{quads}
-use Rattle.cells.specs.Listed.{In, Entry, Grouping, Components}
+use Rattle.cells.specs.Listed.{In, Entry, Grouping, groupingBy, Components}
 use Rattle.cells.specs.Holes.{holes}
 
 -- a component as it is told: its entries, and how many holes they leave
@@ -24,7 +24,7 @@ pub record Example : Type 0 where
   pub answer : List Told
 
 abbrev pub grouping : Example → Grouping
-grouping x = record { n = length (x .cells) / 4; number = λ (q : ℕ). getD (x .groups) q 0; least-cells = x .least-quads; least-corners = x .least-corners }
+grouping x = groupingBy (length (x .cells) / 4) (λ (q : ℕ). getD (x .groups) q 0) (x .least-quads) (x .least-corners)
 
 pub record Says (x : Example) : Type 0 where
   pub grouped : Groups (Neighbours 4 (x .cells) everyone) (grouping x .n) (grouping x .number)

@@ -2,19 +2,14 @@
 -- which count.
 use mathlib.Core.Bool.{Bool, false, not, _&&_, _||_}
 use mathlib.Core.List.{List, [], _∷_}
-use Prim.Native.Nat.{ℕ, zero, suc, _+_, max}
+use Prim.Native.Nat.{ℕ, suc, max}
 use lib.Dec.{eqb}
-use Rattle.words.specs.Sorting.{one}
+use Rattle.cells.specs.Sums.{total, howMany}
 use Rattle.cells.specs.Listed.{Entry}
-
--- the sum of f over the numbers below n
-unfoldable pub total : (ℕ → ℕ) → ℕ → ℕ
-total f zero = 0
-total f (suc n) = total f n + f n
 
 -- how many places of the rectangle are as P says
 unfoldable pub places : (ℕ → ℕ → Bool) → ℕ → ℕ → ℕ
-places P width height = total (λ (u : ℕ). total (λ (v : ℕ). one (P u v)) height) width
+places P width height = total (λ (u : ℕ). howMany (P u) height) width
 
 -- from 0 to the greatest u, and to the greatest v; of no entries, nothing
 unfoldable pub width : List Entry → ℕ

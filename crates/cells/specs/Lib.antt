@@ -1,10 +1,8 @@
 pub mod Cells
 pub mod Groups
-pub mod Forest
-pub mod Table
-pub mod Sides
 pub mod Kind
 pub mod Counted
+pub mod Sums
 pub mod Quads
 pub mod Listed
 pub mod Holes
@@ -12,3 +10,4 @@ pub mod Twin
 pub mod Computed
 pub mod Check
 pub mod Example
+pub mod inner

@@ -3,10 +3,11 @@ use mathlib.Core.Path.{_≡_}
 use mathlib.Core.Logic.{_≢_}
 use mathlib.Core.List.{List, [], _∷_, _++_}
 use Prim.Native.Nat.{ℕ, zero, suc, _≤_, _<_}
+use lib.Dec.{eqb}
 use lib.IntN.{pos}
 use lib.ListN.{length}
-use Rattle.words.specs.Sorting.{equal}
 use Rattle.cells.specs.Cells.{cell}
+use Rattle.cells.specs.Sums.{howMany}
 use Rattle.cells.specs.Kind.{Pair, _⊕_, Kind, Fits, Lone}
 
 -- e is in the list
@@ -52,10 +53,13 @@ pub record Grouping : Type 0 where
   pub least-cells : ℕ
   pub least-corners : ℕ
 
+abbrev pub groupingBy : ℕ → (ℕ → ℕ) → (least-cells least-corners : ℕ) → Grouping
+groupingBy n number least-cells least-corners = record { n = n; number = number; least-cells = least-cells; least-corners = least-corners }
+
 module _ (k : Kind) (cells : List ℕ) (g : Grouping) where
   -- how many cells the group of lowest cell s has, reached or not
   abbrev pub members : ℕ → ℕ
-  members s = equal (g .number) (g .n) s
+  members s = howMany (λ (q : ℕ). eqb (g .number q) s) (g .n)
 
   -- no three cells of the group are a crowd
   pub record Clear (s : ℕ) : Type 0 where

@@ -2,8 +2,8 @@
 // A caller may rely on the classes alone; which number of its class one points at, before `flatten`, is left open.
 ghost use Prim.Native.Nat.{_≤_, _<_};
 ghost use lib.ListN.{length};
-ghost use Rattle.cells.specs.Forest.{Low, Found, Joined, Alone, Flat};
-ghost use Rattle.cells.specs.Table.{mostCells};
+ghost use Rattle.cells.specs.inner.Forest.{Low, Found, Joined, Alone, Flat};
+ghost use Rattle.cells.specs.inner.Table.{mostCells};
 use words::inner::wide;
 
 // The root above x. Each number passed is made to point past its parent, so that chains stay short.

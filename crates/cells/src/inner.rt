@@ -1,8 +1,8 @@
 // Groups of cells across shared sides, for the calls that lay cells out.
 ghost use Prim.Native.Nat.{_≤_};
 ghost use lib.ListN.{length};
-ghost use Rattle.cells.specs.Table.{groupsEnd, Sound};
-ghost use Rattle.cells.specs.Sides.{Grouped};
+ghost use Rattle.cells.specs.inner.Table.{groupsEnd, Sound};
+ghost use Rattle.cells.specs.inner.Sides.{Grouped};
 use crate::sides;
 
 // Each of n cells of `size` corners is given its group: of those whose mark is 0, at the workspace's front, all that are linked across

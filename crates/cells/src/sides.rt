@@ -5,9 +5,9 @@ ghost use mathlib.Core.Path.{_≡_};
 ghost use Prim.Native.Nat.{_+_, _*_, _-_, _%_, _≤_, _<_};
 ghost use lib.ListN.{length};
 ghost use Rattle.cells.specs.Cells.{Has};
-ghost use Rattle.cells.specs.Forest.{Classes};
-ghost use Rattle.cells.specs.Table.{Corners, Sound, groupsEnd, mostCells};
-ghost use Rattle.cells.specs.Sides.{endsKey, sideKey, tableKey, Tabled, Tabulated, Near, Ready, groupsOf, United, Named};
+ghost use Rattle.cells.specs.inner.Forest.{Classes};
+ghost use Rattle.cells.specs.inner.Table.{Corners, Sound, groupsEnd, mostCells};
+ghost use Rattle.cells.specs.inner.Sides.{endsKey, sideKey, tableKey, Tabled, Tabulated, Adjacent, Ready, groupsOf, United, Named};
 use crate::forest;
 use words::inner::order::order_keys;
 use words::inner::order::put;
@@ -89,7 +89,7 @@ pub(crate) fn list_sides(cells: &[u32], size: usize, n: usize, work: &mut [u32])
 // Records h and h + 1: where they have one key, and it is a side's, their cells are joined.
 fn link_at(work: &mut [u32], n: usize, h: usize)
     requires { ⌜ Ready n (h + 2) (now work) ⌝ }
-    requires { ⌜ Classes (Near n (now work) h) n (groupsOf n (now work)) ⌝ }
+    requires { ⌜ Classes (Adjacent n (now work) h) n (groupsOf n (now work)) ⌝ }
     ensures { λ _. ⌜ United n (h + 1) (now (work .entry)) (now (work .exit)) ⌝ }
 {
     let at = 2 * n + 2 * h;
@@ -106,7 +106,7 @@ fn link_at(work: &mut [u32], n: usize, h: usize)
 
 fn link(work: &mut [u32], n: usize, m: usize)
     requires { ⌜ Ready n m (now work) ⌝ }
-    requires { ⌜ Classes (Near n (now work) 0) n (groupsOf n (now work)) ⌝ }
+    requires { ⌜ Classes (Adjacent n (now work) 0) n (groupsOf n (now work)) ⌝ }
     ensures { λ _. ⌜ United n (m - 1) (now (work .entry)) (now (work .exit)) ⌝ }
 {
     let mut h = 0;

@@ -9,7 +9,8 @@ use Rattle.measure.specs.Angle.{angleOf}
 use Rattle.measure.proofs.Positions.{difference-in-reach, angle-known}
 use Rattle.mesh.specs.HalfEdge.{startOf, endOf, nextOf}
 use Rattle.mesh.proofs.HalfEdge.{next-lt}
-use Rattle.classify.specs.Classes.{Input, Sound, angleBetween}
+use Rattle.classify.specs.Classes.{Input, angleBetween}
+use Rattle.classify.specs.inner.Triangle.{Sound}
 
 pub between-known : (i : Input) → Sound i → (a b : ℕ) → a < length (i .xs) → b < length (i .xs)
     → angleOf (Ieee.sub binary32 (getD (i .xs) b nan) (getD (i .xs) a nan)) (Ieee.sub binary32 (getD (i .ys) b nan) (getD (i .ys) a nan)) ≡ Known (angleBetween (i .xs) (i .ys) a b)

@@ -12,7 +12,8 @@ use Rattle.mesh.specs.Cells.{cornersRow, twiceRow}
 use Rattle.measure.specs.Parameter.{parameterRow}
 use Rattle.mesh.proofs.Open.{paired-open, limit-open, positions-open, corners-open}
 use Rattle.classify.specs.declared.EdgeParams.{EdgeParams}
-use Rattle.classify.specs.Classes.{Input, Sound}
+use Rattle.classify.specs.Classes.{Input}
+use Rattle.classify.specs.inner.Triangle.{Sound}
 use Rattle.classify.specs.Call.{lengthsGate, valuesGate, gateOf}
 
 -- ---- rows 1 and 2

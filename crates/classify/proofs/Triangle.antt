@@ -8,8 +8,9 @@ use Rattle.words.proofs.Front.{Front, front-more}
 use Rattle.mesh.proofs.HalfEdge.{next-first, next-second, next-third}
 use Rattle.classify.specs.declared.Side.{Side}
 use Rattle.classify.specs.declared.Sides.{Sides}
-use Rattle.classify.specs.Match.{sideOf, classNumber, classWords}
-use Rattle.classify.specs.Classes.{Input, axesAt, angleBetween, sideAt, sidesAt, judgedAt, classAt}
+use Rattle.classify.specs.Match.{sideOf, classNumber}
+use Rattle.classify.specs.inner.Triangle.{classWords, sidesAt}
+use Rattle.classify.specs.Classes.{Input, axesAt, angleBetween, sideAt, judgedAt, classAt}
 
 -- triangle t by the numbers of its corners
 pub sides-by : (i : Input) (t a b c : ℕ) → a ≡ getD (i .triangles) (3 * t) 0 → b ≡ getD (i .triangles) (3 * t + 1) 0 → c ≡ getD (i .triangles) (3 * t + 2) 0

@@ -5,6 +5,7 @@ use lib.Ieee.{Float}
 use lib.ListN.{length}
 use Rattle.refusal.specs.declared.Gate.{Gate}
 use Rattle.refusal.specs.declared.Gate.the-variants.{Open, Shut}
+use Rattle.refusal.specs.InNumbers.{InNumbers, gives, refuses}
 use Rattle.refusal.specs.Rows.{_then_}
 use Rattle.measure.specs.Parameter.{parameterRow}
 use Rattle.mesh.specs.Lists.{pairedRow, doubledRow, wholeRow, limitRow, mostCorners, mostHalfEdges}
@@ -32,6 +33,11 @@ unfoldable pub gateOf : Input → ℕ → Gate
 gateOf i classes =
     lengthsGate (length (i .xs)) (length (i .ys)) (length (i .angles)) (length (i .marks)) (length (i .spreads)) (length (i .triangles)) classes
     then valuesGate (i .xs) (i .ys) (i .triangles) (i .params)
+
+-- the answer in 01's numbers
+abbrev pub classifiedTold : Classified → InNumbers Unit
+classifiedTold Done = gives tt
+classifiedTold (Refused why) = refuses tt why
 
 -- the answer, and the class list after the call
 pub record Outcome : Type 0 where

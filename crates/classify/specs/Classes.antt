@@ -1,21 +1,17 @@
 -- Document 01, "Classes", over the lists of a frame: each half-edge is judged for itself.
 use mathlib.Core.List.{List}
-use Prim.Native.Nat.{ℕ, _+_, _*_, _%_, _≤_, _<_}
-use mathlib.Core.Path.{_≡_}
-use mathlib.Core.Bool.{true}
+use Prim.Native.Nat.{ℕ}
 use lib.Ieee as Ieee
 use lib.Ieee.{Float, nan, binary32}
 use lib.ListN.{length, getD}
+use denote.Ref.{RefT, now}
 use Rattle.words.specs.Listing.{listing}
 use Rattle.measure.specs.Angle.{angleRule}
-use Rattle.measure.specs.Position.{isPosition}
 use Rattle.axis.specs.declared.AxisCache.{AxisCache}
 use Rattle.axis.specs.Cache.{cacheAt}
-use Rattle.mesh.specs.Lists.{mostCorners, mostHalfEdges}
 use Rattle.mesh.specs.HalfEdge.{nextOf, startOf, endOf}
 use Rattle.classify.specs.declared.EdgeParams.{EdgeParams}
 use Rattle.classify.specs.declared.Side.{Side}
-use Rattle.classify.specs.declared.Sides.{Sides}
 use Rattle.classify.specs.declared.Judged.{Judged}
 use Rattle.classify.specs.declared.Class.{Class}
 use Rattle.classify.specs.Match.{sideOf, judgedOf, classBy, classNumber}
@@ -30,17 +26,10 @@ pub record Input : Type 0 where
   pub triangles : List ℕ
   pub params : EdgeParams
 
--- what the rows of the call have shown of an input that they let through
-pub record Sound (i : Input) : Type 0 where
-  pub ys : length (i .ys) ≡ length (i .xs)
-  pub angles : length (i .angles) ≡ 2 * length (i .xs)
-  pub marks : length (i .marks) ≡ 2 * length (i .xs)
-  pub spreads : length (i .spreads) ≡ 2 * length (i .xs)
-  pub whole : length (i .triangles) % 3 ≡ 0
-  pub corners : length (i .xs) ≤ mostCorners
-  pub edges : length (i .triangles) ≤ mostHalfEdges
-  pub placed : (k : ℕ) → k < length (i .xs) → (isPosition (getD (i .xs) k nan) ≡ true) × (isPosition (getD (i .ys) k nan) ≡ true)
-  pub named : (e : ℕ) → e < length (i .triangles) → getD (i .triangles) e 0 < length (i .xs)
+-- what lent lists hold, in the order in which the call takes them
+abbrev pub given : (x y angles : RefT (List Float)) (marks : RefT (List ℕ)) (spreads : RefT (List Float)) (triangles : RefT (List ℕ)) → EdgeParams → Input
+given x y angles marks spreads triangles params =
+    record { xs = now x; ys = now y; angles = now angles; marks = now marks; spreads = now spreads; triangles = now triangles; params = params }
 
 -- the axes of a corner
 unfoldable pub axesAt : Input → ℕ → AxisCache
@@ -56,10 +45,6 @@ sideAt i e =
     let a = startOf (i .triangles) e in
     let b = endOf (i .triangles) e in
     sideOf (axesAt i a) (axesAt i b) (angleBetween (i .xs) (i .ys) a b)
-
--- the three sides of triangle t
-unfoldable pub sidesAt : Input → ℕ → Sides
-sidesAt i t = record { first = sideAt i (3 * t); second = sideAt i (3 * t + 1); third = sideAt i (3 * t + 2) }
 
 unfoldable pub judgedAt : Input → ℕ → Judged
 judgedAt i e = judgedOf (i .params .tolerance) (sideAt i e)

@@ -1,3 +1,4 @@
 pub mod Match
 pub mod Classes
 pub mod Call
+pub mod inner

@@ -1,5 +1,5 @@
 -- Document 01, "Classes", at one half-edge: the nearest informative axis at each end, and whether the half-edge is Grid.
-use mathlib.Core.Bool.{Bool, cond, _&&_, not}
+use mathlib.Core.Bool.{Bool, false, cond, _&&_, not}
 use Prim.Native.Nat.{ℕ, zero, suc}
 use lib.Dec.{eqb}
 use lib.Ieee as Ieee
@@ -11,8 +11,6 @@ use Rattle.axis.specs.declared.AxisCache.{AxisCache}
 use Rattle.classify.specs.declared.Match.{Match}
 use Rattle.classify.specs.declared.Match.the-variants.{Missing, Found}
 use Rattle.classify.specs.declared.Side.{Side}
-use Rattle.classify.specs.declared.Sides.{Sides}
-use Rattle.classify.specs.declared.Words.{Words}
 use Rattle.classify.specs.declared.Judged.{Judged}
 use Rattle.classify.specs.declared.Judged.the-variants as judged
 use Rattle.classify.specs.declared.Class.{Class}
@@ -36,11 +34,23 @@ matchOf cache angle = nearer (offered (cache .informative0) angle (cache .angle0
 unfoldable pub sideOf : AxisCache → AxisCache → Float → Side
 sideOf start end angle = record { start = matchOf start angle; end = matchOf end angle }
 
--- Grid, with the slots, when both ends have a distance strictly below the tolerance; a missing match at either end is Spurious at once
+-- a match is a slot and a distance, or none
+abbrev pub slotIn : Match → ℕ
+slotIn (Found slot d) = slot
+slotIn Missing = 0
+
+abbrev pub distanceIn : Match → Distance
+distanceIn (Found slot d) = distance.Known d
+distanceIn Missing = distance.Missing
+
+unfoldable pub isBelow : Float → Distance → Bool
+isBelow tolerance (distance.Known d) = Ieee.lt d tolerance
+isBelow tolerance distance.Missing = false
+
+-- Grid, with the slots, when both ends have a distance strictly below the tolerance; a missing match at either end is Spurious
 unfoldable pub judgedBy : Float → Match → Match → Judged
-judgedBy tolerance (Found s0 d0) (Found s1 d1) = cond (Ieee.lt d0 tolerance && Ieee.lt d1 tolerance) (judged.Grid s0 s1) judged.Spurious
-judgedBy tolerance (Found s0 d0) Missing = judged.Spurious
-judgedBy tolerance Missing end = judged.Spurious
+judgedBy tolerance start end =
+    cond (isBelow tolerance (distanceIn start) && isBelow tolerance (distanceIn end)) (judged.Grid (slotIn start) (slotIn end)) judged.Spurious
 
 unfoldable pub judgedOf : Float → Side → Judged
 judgedOf tolerance side = judgedBy tolerance (side .start) (side .end)
@@ -64,11 +74,3 @@ abbrev pub classFrom : ℕ → Class
 classFrom zero = class.Spurious
 classFrom (suc zero) = class.Grid
 classFrom (suc (suc n)) = class.Diagonal
-
--- the words of a triangle's three half-edges: each by its own judgement and those of the next two
-unfoldable pub classWords : Float → Sides → Words
-classWords tolerance sides =
-    let a = judgedOf tolerance (sides .first) in
-    let b = judgedOf tolerance (sides .second) in
-    let c = judgedOf tolerance (sides .third) in
-    record { first = classNumber (classBy a b c); second = classNumber (classBy b c a); third = classNumber (classBy c a b) }

@@ -3,6 +3,7 @@ ghost use mathlib.Core.Path.{_≡_};
 ghost use Prim.Native.Nat.{_≤_};
 ghost use lib.ListN.{length};
 ghost use Rattle.mesh.specs.Lists.{mostCorners, mostHalfEdges};
+ghost use Rattle.classify.specs.Classes.{given};
 ghost use Rattle.classify.specs.Call.{lengthsGate, valuesGate, gateOf};
 use crate::EdgeParams;
 use measure::inner::parameter_row;
@@ -69,7 +70,7 @@ pub(crate) fn judge(
     params: EdgeParams,
     classes: usize,
 ) -> Gate
-    ensures { λ r. ⌜ r ≡ gateOf (record { xs = now (x .entry); ys = now (y .entry); angles = now (angles .entry); marks = now (marks .entry); spreads = now (spreads .entry); triangles = now (triangles .entry); params = params }) classes ⌝ }
+    ensures { λ r. ⌜ r ≡ gateOf (given (x .entry) (y .entry) (angles .entry) (marks .entry) (spreads .entry) (triangles .entry) params) classes ⌝ }
 {
     let lengths = lengths_gate(
         x.len(),

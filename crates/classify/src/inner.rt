@@ -2,8 +2,9 @@
 ghost use mathlib.Core.Path.{_≡_};
 ghost use Prim.Native.Nat.{_+_, _*_, _<_};
 ghost use lib.ListN.{length};
-ghost use Rattle.classify.specs.Classes.{Sound, angleBetween, sidesAt, classesOf};
-ghost use Rattle.classify.specs.Match.{classFrom, classWords};
+ghost use Rattle.classify.specs.inner.Triangle.{Sound, sidesAt, classWords};
+ghost use Rattle.classify.specs.Classes.{angleBetween, classesOf, given};
+ghost use Rattle.classify.specs.Match.{classFrom};
 use crate::Class;
 use crate::EdgeParams;
 use crate::Sides;
@@ -47,8 +48,8 @@ pub fn judge_triangle(
     params: EdgeParams,
     t: usize,
 ) -> Sides
-    requires { ⌜ Sound (record { xs = now x; ys = now y; angles = now angles; marks = now marks; spreads = now spreads; triangles = now triangles; params = params }) × (3 * t + 2 < length (now triangles)) ⌝ }
-    ensures { λ r. ⌜ r ≡ sidesAt (record { xs = now (x .entry); ys = now (y .entry); angles = now (angles .entry); marks = now (marks .entry); spreads = now (spreads .entry); triangles = now (triangles .entry); params = params }) t ⌝ }
+    requires { ⌜ Sound (given x y angles marks spreads triangles params) × (3 * t + 2 < length (now triangles)) ⌝ }
+    ensures { λ r. ⌜ r ≡ sidesAt (given (x .entry) (y .entry) (angles .entry) (marks .entry) (spreads .entry) (triangles .entry) params) t ⌝ }
 {
     let rule = params.spread;
     let a = wide(triangles[3 * t]);
@@ -91,8 +92,8 @@ pub fn classify_triangles(
     params: EdgeParams,
     classes: &mut [u32],
 )
-    requires { ⌜ Sound (record { xs = now x; ys = now y; angles = now angles; marks = now marks; spreads = now spreads; triangles = now triangles; params = params }) × (length (now classes) ≡ length (now triangles)) ⌝ }
-    ensures { λ _. ⌜ now (classes .exit) ≡ classesOf (record { xs = now (x .entry); ys = now (y .entry); angles = now (angles .entry); marks = now (marks .entry); spreads = now (spreads .entry); triangles = now (triangles .entry); params = params }) ⌝ }
+    requires { ⌜ Sound (given x y angles marks spreads triangles params) × (length (now classes) ≡ length (now triangles)) ⌝ }
+    ensures { λ _. ⌜ now (classes .exit) ≡ classesOf (given (x .entry) (y .entry) (angles .entry) (marks .entry) (spreads .entry) (triangles .entry) params) ⌝ }
 {
     let count = triangles.len() / 3;
     let mut t = 0;

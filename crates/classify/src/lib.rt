@@ -1,6 +1,7 @@
 // Classes of half-edges: Grid where both ends have an axis near enough, Diagonal across two such sides, else Spurious.
 // `classify_all_edges` is the call; `inner` has the stage without its checks and the judgement of one triangle.
 ghost use mathlib.Core.Path.{_≡_};
+ghost use Rattle.classify.specs.Classes.{given};
 ghost use Rattle.classify.specs.Call.{Outcome, callOf};
 use axis::SpreadRule;
 use refusal::Gate;
@@ -70,7 +71,7 @@ pub fn classify_all_edges(
     classes: &mut [u32],
 ) -> Classified
     ensures { λ r. ⌜ _≡_ {A = Outcome} (record { answer = r; classes = now (classes .exit) })
-        (callOf (record { xs = now (x .entry); ys = now (y .entry); angles = now (angles .entry); marks = now (marks .entry); spreads = now (spreads .entry); triangles = now (triangles .entry); params = params }) (now (classes .entry))) ⌝ }
+        (callOf (given (x .entry) (y .entry) (angles .entry) (marks .entry) (spreads .entry) (triangles .entry) params) (now (classes .entry))) ⌝ }
 {
     let gate = gate::judge(
         x,

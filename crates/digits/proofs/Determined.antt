@@ -7,8 +7,7 @@ use Rattle.digits.specs.declared.End.{End}
 use Rattle.digits.specs.declared.End.the-variants.{Blank}
 use Rattle.digits.specs.declared.Taken.{Taken}
 use Rattle.digits.specs.Digits.{hexOf, decimalOf}
-use Rattle.digits.specs.Run.{endOf}
-use Rattle.digits.specs.Taken.{words, Takes}
+use Rattle.digits.specs.Taken.{endByte, words, Takes}
 use Rattle.digits.specs.Taken.Takes.{nothing, word}
 use Rattle.digits.proofs.Forms.{Marked, one-hex, one-decimal}
 
@@ -26,13 +25,13 @@ module _ (form : ℕ → List ℕ) (end : ℕ) (marked : Marked form end) where
       cc
 
 pub hex-injective : (v w : ℕ) → v < words → w < words → hexOf v ≡ hexOf w → v ≡ w
-hex-injective = one-form hexOf (endOf Blank) (one-hex Blank)
+hex-injective = one-form hexOf (endByte Blank) (one-hex Blank)
 
 pub decimal-injective : (v w : ℕ) → v < words → w < words → decimalOf v ≡ decimalOf w → v ≡ w
-decimal-injective = one-form decimalOf (endOf Blank) (one-decimal Blank)
+decimal-injective = one-form decimalOf (endByte Blank) (one-decimal Blank)
 
-pub hex-determined : (end : End) {text : List ℕ} {at : ℕ} {r s : Taken} → Takes hexOf text at (endOf end) r → Takes hexOf text at (endOf end) s → r ≡ s
-hex-determined end = one-answer hexOf (endOf end) (one-hex end)
+pub hex-determined : (end : End) {text : List ℕ} {at : ℕ} {r s : Taken} → Takes hexOf text at (endByte end) r → Takes hexOf text at (endByte end) s → r ≡ s
+hex-determined end = one-answer hexOf (endByte end) (one-hex end)
 
-pub decimal-determined : (end : End) {text : List ℕ} {at : ℕ} {r s : Taken} → Takes decimalOf text at (endOf end) r → Takes decimalOf text at (endOf end) s → r ≡ s
-decimal-determined end = one-answer decimalOf (endOf end) (one-decimal end)
+pub decimal-determined : (end : End) {text : List ℕ} {at : ℕ} {r s : Taken} → Takes decimalOf text at (endByte end) r → Takes decimalOf text at (endByte end) s → r ≡ s
+decimal-determined end = one-answer decimalOf (endByte end) (one-decimal end)

@@ -13,8 +13,8 @@ use Rattle.io.specs.Digits.{Fewest}
 use Rattle.digits.specs.declared.End.{End}
 use Rattle.digits.specs.declared.End.the-variants.{Blank, Feed}
 use Rattle.digits.specs.Digits.{hexOf, decimalOf}
-use Rattle.digits.specs.Run.{numeral, NoDigit, Run, endOf}
-use Rattle.digits.specs.Taken.{words, Stands, Takes}
+use Rattle.digits.specs.inner.Run.{numeral, NoDigit, Run}
+use Rattle.digits.specs.Taken.{endByte, words, Stands, Takes}
 use Rattle.digits.specs.Taken.Takes.{nothing, word}
 use Rattle.digits.specs.declared.Taken.the-variants.{Nothing, Word}
 use Rattle.digits.proofs.Numerals.{numeral-length, numeral-digit, one-run, by-digit}
@@ -30,7 +30,7 @@ hex-numeral n = let e = sevens n in rw (e .0, e .1, e .2, e .3, e .4, e .5)
 pub no-digit : (base byte : ℕ) → byte < 48 → NoDigit base byte
 no-digit base byte l v h e = by-digit byte v e (λ a b. omega arith) (λ a b. omega arith)
 
-pub end-low : (end : End) → endOf end < 48
+pub end-low : (end : End) → endByte end < 48
 end-low Blank = omega arith
 end-low Feed = omega arith
 
@@ -83,17 +83,17 @@ abbrev pub Marked : (ℕ → List ℕ) → ℕ → Type 0
 Marked form end =
     (v w : ℕ) (r s : List ℕ) → v < words → w < words → form v ++ (end ∷ r) ≡ form w ++ (end ∷ s) → (v ≡ w) × (r ≡ s)
 
-pub one-hex : (end : End) → Marked hexOf (endOf end)
+pub one-hex : (end : End) → Marked hexOf (endByte end)
 one-hex end v w r s a b is =
-    let e = endOf end in
+    let e = endByte end in
     let other = no-digit 16 e (end-low end) in
     let run = run-of 16 8 8 w e s (omega arith) (omega arith) other in
     let o = hex-run run v e r a other (sym (ap (λ (l : List ℕ). l ++ (e ∷ s)) (hex-numeral w)) ∙ sym is) in
     (o .1, ap tail (sym (o .2) ∙ drop-at (numeral 16 8 w) (e ∷ s) 8 (numeral-length 16 8 w)))
 
-pub one-decimal : (end : End) → Marked decimalOf (endOf end)
+pub one-decimal : (end : End) → Marked decimalOf (endByte end)
 one-decimal end v w r s a b is =
-    let e = endOf end in
+    let e = endByte end in
     let other = no-digit 10 e (end-low end) in
     let f = fewest w in
     let run = run-of 10 10 (places w) w e s (f .1) (word-places w b) other in
@@ -128,20 +128,20 @@ no-leading-nought v r rest e = go (places v) (fewest v) (sym (ap (λ (l : List �
 -- ---- what the readers answer
 
 module _ {text : List ℕ} {at value count : ℕ} (end : End) where
-  pub no-hex : Run text at 16 8 value count → ((8 ≡ count) → at + count < length text → getD text (at + count) 0 ≡ endOf end → ⊥) → Takes hexOf text at (endOf end) Nothing
+  pub no-hex : Run text at 16 8 value count → ((8 ≡ count) → at + count < length text → getD text (at + count) 0 ≡ endByte end → ⊥) → Takes hexOf text at (endByte end) Nothing
   no-hex run unless =
       nothing
       (λ v rest w is.
-      let o = hex-run run v (endOf end) rest w (no-digit 16 (endOf end) (end-low end)) is in
-      let f = front text (at + count) (endOf end) rest (o .2) in
+      let o = hex-run run v (endByte end) rest w (no-digit 16 (endByte end) (end-low end)) is in
+      let f = front text (at + count) (endByte end) rest (o .2) in
       unless (o .0) (f .0) (f .1))
 
-  pub no-decimal : Run text at 10 10 value count → (Fewest 10 1 value count → value < words → at + count < length text → getD text (at + count) 0 ≡ endOf end → ⊥) → Takes decimalOf text at (endOf end) Nothing
+  pub no-decimal : Run text at 10 10 value count → (Fewest 10 1 value count → value < words → at + count < length text → getD text (at + count) 0 ≡ endByte end → ⊥) → Takes decimalOf text at (endByte end) Nothing
   no-decimal run unless =
       nothing
       (λ v rest w is.
-      let o = decimal-run run v (endOf end) rest w (no-digit 10 (endOf end) (end-low end)) is in
-      let f = front text (at + count) (endOf end) rest (o .2) in
+      let o = decimal-run run v (endByte end) rest w (no-digit 10 (endByte end) (end-low end)) is in
+      let f = front text (at + count) (endByte end) rest (o .2) in
       unless (o .0) (rw (o .1) at w) (f .0) (f .1))
 
 -- a run that begins with a nought has a digit to spare, unless it has one only
@@ -169,11 +169,11 @@ module _ {text : List ℕ} {at value : ℕ} where
       go (no b) l = omega (arith, b)
 
 module _ {text : List ℕ} {at value count : ℕ} (end : End) where
-  pub hex-word : Run text at 16 8 value count → 8 ≡ count → at + 8 < length text → getD text (at + 8) 0 ≡ endOf end → Takes hexOf text at (endOf end) (Word value (at + 9))
+  pub hex-word : Run text at 16 8 value count → 8 ≡ count → at + 8 < length text → getD text (at + 8) 0 ≡ endByte end → Takes hexOf text at (endByte end) (Word value (at + 9))
   hex-word run q l g =
       let r : Run text at 16 8 value 8 = subst (λ (n : ℕ). Run text at 16 8 value n) (sym q) run in
       let n : at + 8 + 1 ≡ at + 9 = omega arith in
-      word (rw n at (stands r hexOf (endOf end) (omega (arith, r .below)) (hex-numeral value) l g))
+      word (rw n at (stands r hexOf (endByte end) (omega (arith, r .below)) (hex-numeral value) l g))
 
-  pub decimal-word : Run text at 10 10 value count → Fewest 10 1 value count → value < words → at + count < length text → getD text (at + count) 0 ≡ endOf end → Takes decimalOf text at (endOf end) (Word value (at + count + 1))
-  decimal-word run f w l g = word (stands run decimalOf (endOf end) w (decimal-numeral value count f) l g)
+  pub decimal-word : Run text at 10 10 value count → Fewest 10 1 value count → value < words → at + count < length text → getD text (at + count) 0 ≡ endByte end → Takes decimalOf text at (endByte end) (Word value (at + count + 1))
+  decimal-word run f w l g = word (stands run decimalOf (endByte end) w (decimal-numeral value count f) l g)

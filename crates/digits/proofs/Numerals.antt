@@ -13,7 +13,7 @@ use lib.Dec.{ltb}
 use lib.ListN.{length, getD, take, drop, length-append, length-drop, List·getD-append}
 use lib.Seq.{take-at, drop-at, getD-at, getD-drop, drop-cons}
 use Rattle.digits.specs.Digits.{digitOf}
-use Rattle.digits.specs.Run.{numeral, NoDigit, Run}
+use Rattle.digits.specs.inner.Run.{numeral, NoDigit, Run}
 
 -- a digit is one of the ten, or a letter
 pub by-digit : {P : Type 0} (byte v : ℕ) → byte ≡ digitOf v → (v < 10 → byte ≡ v + 48 → P) → (10 ≤ v → byte ≡ v + 55 → P) → P

@@ -12,7 +12,7 @@ use lib.Dec.{ltb}
 use lib.ListN.{length, getD, List·getD-append}
 use Rattle.io.specs.Digits.{digits, Fewest}
 use Rattle.digits.specs.Digits.{placesIn, decimalOf}
-use Rattle.digits.specs.Run.{numeral}
+use Rattle.digits.specs.inner.Run.{numeral}
 use Rattle.digits.proofs.Numerals.{numeral-length, one-digit}
 
 fewest-more : (n j : ℕ) → 10 ≤ n → Fewest 10 1 (n / 10) j → Fewest 10 1 n (suc j)

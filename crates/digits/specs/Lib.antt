@@ -1,3 +1,3 @@
 pub mod Digits
-pub mod Run
 pub mod Taken
+pub mod inner

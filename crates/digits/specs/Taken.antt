@@ -3,8 +3,15 @@ use mathlib.Core.Path.{_≡_}
 use mathlib.Core.List.{List, _∷_, _++_}
 use Prim.Native.Nat.{ℕ, _+_, _<_}
 use lib.ListN.{length, drop}
+use Rattle.digits.specs.declared.End.{End}
+use Rattle.digits.specs.declared.End.the-variants.{Blank, Feed}
 use Rattle.digits.specs.declared.Taken.{Taken}
 use Rattle.digits.specs.declared.Taken.the-variants.{Nothing, Word}
+
+-- the byte that ends a form: a blank or a line feed
+abbrev pub endByte : End → ℕ
+endByte Blank = 32
+endByte Feed = 10
 
 -- how many values there are: those of 32 bits
 abbrev pub words : ℕ

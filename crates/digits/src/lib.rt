@@ -3,8 +3,8 @@
 ghost use Prim.Native.Nat.{_<_, _≤_, _^_};
 ghost use mathlib.Core.Path.{_≡_};
 ghost use Rattle.digits.specs.Digits.{hexOf, decimalOf};
-ghost use Rattle.digits.specs.Run.{Run as Spelt, Value, endOf};
-ghost use Rattle.digits.specs.Taken.{Takes};
+ghost use Rattle.digits.specs.inner.Run.{Run as Spelt, Value};
+ghost use Rattle.digits.specs.Taken.{endByte, Takes};
 
 pub mod inner;
 
@@ -28,7 +28,7 @@ struct Run {
 
 // The byte of an end.
 pub fn byte(end: End) -> u8
-    ensures { λ r. ⌜ r ≡ endOf end ⌝ }
+    ensures { λ r. ⌜ r ≡ endByte end ⌝ }
 {
     match end {
         End::Blank => 32,
@@ -90,7 +90,7 @@ fn run_at(text: &[u8], at: usize, base: u64, most: usize) -> Run
 
 // Eight upper-case hex digits from `at` on, then the end.
 pub fn hex_at(text: &[u8], at: usize, end: End) -> Taken
-    ensures { λ r. ⌜ Takes hexOf (now (text .entry)) at (endOf end) r ⌝ }
+    ensures { λ r. ⌜ Takes hexOf (now (text .entry)) at (endByte end) r ⌝ }
 {
     let run = run_at(text, at, 16, 8);
     if run.count < 8 {
@@ -107,7 +107,7 @@ pub fn hex_at(text: &[u8], at: usize, end: End) -> Taken
 
 // The decimal digits of a word, as few as hold it, from `at` on, then the end.
 pub fn decimal_at(text: &[u8], at: usize, end: End) -> Taken
-    ensures { λ r. ⌜ Takes decimalOf (now (text .entry)) at (endOf end) r ⌝ }
+    ensures { λ r. ⌜ Takes decimalOf (now (text .entry)) at (endByte end) r ⌝ }
 {
     let run = run_at(text, at, 10, 10);
     let count = run.count;

@@ -8,26 +8,27 @@ use Prim.Native.Nat.{ℕ, _+_, _*_, _≤_, _<_}
 use native.Mathlib.Decide.{ℕ-discrete}
 use native.Mathlib.Omega.{arith}
 use lib.ListN.{length}
-use Rattle.words.specs.Order.{wordOf}
+use Rattle.words.specs.inner.Order.{wordOf}
 use Rattle.cells.specs.Cells.{Neighbours, everyone}
 use Rattle.cells.specs.Groups.{Groups}
 use Rattle.cells.specs.Kind.{Pair, ReachedCorner, Lone}
 use Rattle.cells.specs.Counted.{Exactly}
-use Rattle.cells.specs.Listed.{Grouping, Labelling}
+use Rattle.cells.specs.Listed.{Grouping, groupingBy, Labelling}
 use Rattle.cells.specs.Quads.{quads}
 use Rattle.cells.proofs.Unique.{one-lone}
 use Rattle.cells.proofs.Squares.{quad-laws}
 use Rattle.cells.proofs.Counted.{exactly-same}
-use Rattle.laying.specs.Layout.{Given}
+use Rattle.laying.specs.inner.Layout.{Given}
 use Rattle.fates.specs.declared.LabelParams.{LabelParams}
 use Rattle.fates.specs.declared.Fate.{Fate}
-use Rattle.fates.specs.Fates.{groupingBy, recordsAt, loneAt, fateOf, walkedOf, keyIn, seedIn, Laid, Walk, reachedFrom, loneFrom, Alone}
-use Rattle.fates.specs.Fates.Walk.{within, none, laid}
-use Rattle.fates.specs.Judged.{Labels, Becomes, fateAt, isLabelled}
-use Rattle.fates.specs.Index.{Indexed, runsAt}
-use Rattle.fates.specs.Judging.{Falls, Ruled, Judges, Tabled}
-use Rattle.fates.specs.Judging.Falls.{not-lowest, few-quads, no-labelling, few-lone, kept}
-use Rattle.fates.specs.Computed.{Computed}
+use Rattle.fates.specs.inner.Fates.{recordsAt, loneAt, fateOf, walkedOf, keyIn, seedIn, Laid, Walk, reachedFrom, loneFrom, Alone}
+use Rattle.fates.specs.inner.Fates.Walk.{within, none, laid}
+use Rattle.fates.specs.Judged.{Labels, Becomes}
+use Rattle.fates.specs.inner.FateWords.{fateAt, isLabelled}
+use Rattle.fates.specs.inner.Index.{Indexed, runsAt}
+use Rattle.fates.specs.inner.Judging.{Falls, Ruled, Judges, Tabled}
+use Rattle.fates.specs.inner.Judging.Falls.{not-lowest, few-quads, no-labelling, few-lone, kept}
+use Rattle.fates.specs.inner.Computed.{Computed}
 use Rattle.fates.proofs.LoneCorners.{key-small, laid-by}
 use Rattle.fates.proofs.Sizes.{some-members, lowest-by-members}
 use Rattle.fates.proofs.Claims.{own-quad, keys-rise, run-holding, run-counts, claims-count}
@@ -50,9 +51,9 @@ labelled-by (no-labelling a b c) e = absurd (false≢true e)
 labelled-by (few-lone a b c d) e = (a, c)
 labelled-by (kept a b c d) e = (a, c)
 
-module _ (span : ℕ) (cells : List ℕ) (n : ℕ) (params : LabelParams) (number : ℕ → ℕ) (all m : ℕ) (xs : List ℕ) (G : Groups (Neighbours 4 cells everyone) n number) (A : Alone cells (groupingBy n number params) span all m xs) where
+module _ (span : ℕ) (cells : List ℕ) (n : ℕ) (params : LabelParams) (number : ℕ → ℕ) (all m : ℕ) (xs : List ℕ) (G : Groups (Neighbours 4 cells everyone) n number) (A : Alone cells (groupingBy n number (params .quads) (params .corners)) span all m xs) where
   abbrev g : Grouping
-  g = groupingBy n number params
+  g = groupingBy n number (params .quads) (params .corners)
 
   -- ---- one quad
 

@@ -6,15 +6,15 @@ use Prim.Native.Nat.{ℕ, zero, suc, _+_, _*_, _-_, _/_, _%_, _≤_, _<_}
 use native.Mathlib.Decide.{ℕ-discrete, decLt}
 use native.Mathlib.Omega.{arith}
 use lib.ListN.{getD}
-use Rattle.words.specs.Order.{wordOf}
+use Rattle.words.specs.inner.Order.{wordOf}
 use Rattle.cells.specs.Kind.{Pair, ReachedCorner, Claimed}
 use Rattle.cells.specs.Counted.{Exactly}
 use Rattle.cells.specs.Quads.{quads}
 use Rattle.cells.proofs.Counted.{Image, exactly-by, exactly-below}
-use Rattle.fates.specs.Fates.{keyIn, cornerIn, seedIn, Keyed, Holding}
-use Rattle.fates.specs.Index.{Stretch}
-use Rattle.fates.specs.Singles.{Follows}
-use Rattle.fates.specs.Judging.{Begins}
+use Rattle.fates.specs.inner.Fates.{keyIn, cornerIn, seedIn, Keyed, Holding}
+use Rattle.fates.specs.inner.Index.{Stretch}
+use Rattle.fates.specs.inner.Singles.{Follows}
+use Rattle.fates.specs.inner.Judging.{Begins}
 use Rattle.fates.proofs.LoneCorners.{same-pair, same-key}
 
 -- ---- a run for itself

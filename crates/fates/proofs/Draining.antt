@@ -1,6 +1,6 @@
 -- The queue is drained: corner by corner of a quad, and quad by quad, words become records, until marks and words are blank. What a
 -- labelling left is then one record for each reached corner. Assumes nothing.
-use mathlib.Core.Path.{_≡_, refl, sym, ap, _∙_}
+use mathlib.Core.Path.{_≡_, refl, ap, _∙_}
 use mathlib.Core.Logic.{_≢_}
 use mathlib.Core.List.{List}
 use Prim.Native.Nat.{ℕ, _+_, _*_, _%_, _≤_, _<_}
@@ -11,14 +11,16 @@ use lib.Seq.{getD-set-same}
 use Rattle.cells.specs.Cells.{cell}
 use Rattle.cells.specs.Kind.{ReachedCorner}
 use Rattle.cells.specs.Quads.{quads}
-use Rattle.laying.specs.Layout.{mark, queued, firstWord, secondWord, pairOf, Given}
-use Rattle.laying.specs.Invariant.{Cover}
-use Rattle.laying.specs.Answers.{Fitted}
-use Rattle.fates.specs.Fates.{recordsAt, seedIn, cornerIn, Holding}
-use Rattle.fates.specs.Gathering.{Worded, Copied, Recorded, Drawn, Emptied, Taken}
+use Rattle.mesh.specs.Lists.{mostQuads}
+use Rattle.laying.specs.inner.Layout.{Near, mark, queued, firstWord, secondWord, pairOf, Given}
+use Rattle.laying.specs.inner.Invariant.{Cover}
+use Rattle.laying.specs.inner.Answers.{Fitted}
+use Rattle.fates.specs.inner.Fates.{recordsAt, seedIn, cornerIn, Holding}
+use Rattle.fates.specs.inner.Gathering.{Worded, Copied, Recorded, Drawn, Emptied, Taken}
 use Rattle.laying.proofs.Around.{same-corner}
 use Rattle.laying.proofs.Counts.{eq-or-lt}
 use Rattle.laying.proofs.Facing.{corner-below, reached-below}
+use Rattle.laying.proofs.Wiping.{marks-gone, firsts-gone}
 use Rattle.fates.proofs.Drawing.{drawn-none, drawn-mark, drawn-on}
 
 -- ---- a quad
@@ -81,23 +83,11 @@ module _ {span : ℕ} {cells : List ℕ} {n seed : ℕ} {xs ys : List ℕ} {m r 
   taken h l worded = record {
     drawn = t .drawn;
     few = omega (arith, t .few);
-    blank = record { marks = λ q u. marks q u (ℕ-discrete (mark xs q) 0); first = first; second = λ c u. second c u (ℕ-discrete (firstWord span xs c) 0) };
+    blank = record { marks = marks-gone ys cover (λ q u z. t .drawn .zero q (omega (arith, given .few)) z) (λ j u. t .marks j (omega arith)); first = first; second = λ c u. second c u (ℕ-discrete (firstWord span xs c) 0) };
   }
     where
-      marks : (q : ℕ) → q < n → Dec (mark xs q ≡ 0) → mark ys q ≡ 0
-      marks q u (yes z) = t .drawn .zero q (omega (arith, given .few)) z
-      marks q u (no z) =
-          let o = cover .waits q u z in
-          ap (mark ys) (sym (o .is)) ∙ t .marks (o .at) (omega (arith, o .small))
-
-      first-at : (c : ℕ) → c < span → Dec (firstWord span xs c ≡ 0) → firstWord span ys c ≡ 0
-      first-at c u (yes z) = t .drawn .zero (2 * span + c) (omega arith) z
-      first-at c u (no z) =
-          let o = cover .first c u z in
-          ap (firstWord span ys) (sym (o .is)) ∙ t .words (o .at) (omega (arith, o .small)) (o .place)
-
       first : (c : ℕ) → c < span → firstWord span ys c ≡ 0
-      first c u = first-at c u (ℕ-discrete (firstWord span xs c) 0)
+      first = firsts-gone ys cover (λ c u z. t .drawn .zero (2 * span + c) (omega arith) z) (λ j u. t .words j (omega arith))
 
       second : (c : ℕ) → c < span → Dec (firstWord span xs c ≡ 0) → secondWord span ys c ≡ 0
       second c u (yes z) = t .drawn .zero (3 * span + c) (omega arith) (worded .none c u z)
@@ -125,6 +115,10 @@ module _ {span : ℕ} {cells : List ℕ} {n seed : ℕ} {xs : List ℕ} {t : ℕ
       none-at c h z (yes y) = y
       none-at c h z (no y) = absurd (f .words c (f .only-second c h y) .0 z)
 
+  -- no more are reached than there may be quads
+  near-most : {word : ℕ} → Near t word → Near mostQuads word
+  near-most h = record { low = omega (arith, h .low, small, given .few, given .most); high = omega (arith, h .high, small, given .few, given .most) }
+
   -- a reached corner is one of the list's
   reached-small : {c : ℕ} → seed < n → ReachedCorner quads cells seed c → c < span
   reached-small hs r = rw (← r .is) (corner-below given (r .of) (r .place) (reached-below given hs (r .reached)))
@@ -138,8 +132,8 @@ module _ {span : ℕ} {cells : List ℕ} {n seed : ℕ} {xs : List ℕ} {t : ℕ
         record {
           x = firstWord span xs (cornerIn ys (recordsAt span n) k);
           y = secondWord span xs (cornerIn ys (recordsAt span n) k);
-          x-small = fitted-worded .first _ (o .small);
-          y-small = fitted-worded .second _ (o .small);
+          x-near = near-most (f .near _ (f .only-first _ (o .small) (o .had)) .0);
+          y-near = near-most (f .near _ (f .only-first _ (o .small) (o .had)) .1);
           is = o .key;
           pair = refl;
         };

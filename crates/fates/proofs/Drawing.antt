@@ -8,12 +8,12 @@ use native.Mathlib.Decide.{ℕ-discrete, decLt}
 use native.Mathlib.Omega.{arith}
 use lib.ListN.{length, getD, set, length-set}
 use lib.Seq.{getD-set-same, getD-set-other}
-use Rattle.words.specs.Order.{wordOf}
+use Rattle.words.specs.inner.Order.{wordOf}
 use Rattle.words.proofs.Regions.{set-cases}
-use Rattle.laying.specs.Layout.{firstWord, secondWord}
-use Rattle.laying.specs.Settling.{Bears}
-use Rattle.fates.specs.Fates.{recordsAt, cornerIn, seedIn}
-use Rattle.fates.specs.Gathering.{Worded, Copied, Recorded, Drawn}
+use Rattle.laying.specs.inner.Layout.{firstWord, secondWord}
+use Rattle.laying.specs.inner.Settling.{Bears}
+use Rattle.fates.specs.inner.Fates.{recordsAt, cornerIn, seedIn}
+use Rattle.fates.specs.inner.Gathering.{Worded, Copied, Recorded, Drawn}
 
 -- ---- nothing, a mark, a corner
 

@@ -4,7 +4,7 @@ use mathlib.Core.Logic.{_≢_}
 use Prim.Native.Nat.{ℕ, zero, suc}
 use Rattle.fates.specs.declared.Fate.{Fate}
 use Rattle.fates.specs.declared.Fate.the-variants.{NotLowest, TooFewQuads, NoLabelling, TooFewLone, Kept}
-use Rattle.fates.specs.Judged.{fateNumber, claimedIn, fateFrom}
+use Rattle.fates.specs.inner.FateWords.{fateNumber, claimedIn, fateFrom}
 
 pub read-back : (fate : Fate) → fateFrom (fateNumber fate) (claimedIn fate) ≡ fate
 unfolding fateNumber claimedIn fateFrom

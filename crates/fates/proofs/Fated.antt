@@ -2,6 +2,7 @@
 -- each goes one seed on. And where the walks begin. Assumes nothing.
 use mathlib.Core.Path.{_≡_, refl, sym, ap, _∙_, subst}
 use mathlib.Core.Logic.{_≢_}
+use mathlib.Core.Bool.{Bool, cond}
 use mathlib.Core.List.{List}
 use Prim.Native.Nat.{ℕ, zero, suc, _+_, _*_, _%_, _≤_, _<_}
 use native.Mathlib.Omega.{arith}
@@ -9,23 +10,24 @@ use borrow.Author.Tests.{eq-eqb}
 use lib.Dec.{eqb}
 use lib.ListN.{length, set}
 use lib.Seq.{getD-set-same, getD-set-other}
-use Rattle.words.specs.Sorting.{one, equal}
 use Rattle.words.proofs.Rank.{equal-le, below-step, below-le}
-use Rattle.cells.specs.Kind.{Pair, Fits}
 use Rattle.cells.specs.Kind.Chain.{here}
-use Rattle.cells.specs.Listed.{Grouping, members, Labelling}
+use Rattle.cells.specs.Sums.{total, howMany}
+use Rattle.cells.specs.Listed.{Grouping, groupingBy, members}
 use Rattle.cells.specs.Quads.{quads}
+use Rattle.cells.proofs.Squares.{no-crowd}
 use Rattle.laying.specs.declared.Walked.{Walked}
 use Rattle.laying.specs.declared.Walked.the-variants as walked
-use Rattle.laying.specs.Layout.{mark, pairOf, Given}
-use Rattle.laying.specs.Invariant.{sign, count}
-use Rattle.laying.specs.Moves.{Rest, Stuck}
-use Rattle.laying.specs.Answers.{Fitted, Labelled, Cleared}
+use Rattle.laying.specs.inner.Layout.{mark, pairOf, Given}
+use Rattle.laying.specs.inner.Invariant.{sign, count}
+use Rattle.laying.specs.inner.Moves.{Rest, Stuck}
+use Rattle.laying.specs.inner.Answers.{Fitted, Labelled, Cleared}
 use Rattle.fates.specs.declared.LabelParams.{LabelParams}
-use Rattle.fates.specs.Fates.{groupingBy, recordsAt, walkedAt, walkedOf, seedIn, Walk, reachedFrom}
-use Rattle.fates.specs.Fates.Walk.{within, none, laid}
-use Rattle.fates.specs.Prepared.{Ready}
-use Rattle.fates.specs.Gathering.{Taken, numbersIn, Underway}
+use Rattle.fates.specs.inner.Fates.{recordsAt, walkedAt, walkedOf, seedIn, Walk, reachedFrom}
+use Rattle.fates.specs.inner.Fates.Walk.{within, none, laid}
+use Rattle.fates.specs.inner.Prepared.{Ready}
+use Rattle.fates.specs.inner.Gathering.{Taken, numbersIn, Underway}
+use Rattle.fates.proofs.Members.{equal-how-many}
 use Rattle.fates.proofs.Draining.{holding}
 use Rattle.fates.proofs.OwnRuns.{reached-number}
 use Rattle.fates.proofs.Holdings.{holding-more}
@@ -56,14 +58,10 @@ mark-le zero b h = omega arith
 mark-le (suc x) b h = omega (arith, h (λ e. omega arith))
 
 -- where what is marked has the key v, no more are marked than have it
-count-equal : (w : List ℕ) (d : ℕ → ℕ) (v n : ℕ) → ((q : ℕ) → q < n → mark w q ≢ 0 → d q ≡ v) → count w n ≤ equal d n v
-unfolding count equal one
+count-equal : (w : List ℕ) (d : ℕ → ℕ) (v n : ℕ) → ((q : ℕ) → q < n → mark w q ≢ 0 → d q ≡ v) → count w n ≤ howMany (λ (q : ℕ). eqb (d q) v) n
+unfolding count total
 count-equal w d v zero h = omega arith
-count-equal w d v (suc n) h = omega (arith, count-equal w d v n (λ q l. h q (omega arith)), mark-le (mark w n) (one (eqb (d n) v)) (λ z. ap one (eq-eqb (d n) v (h n (omega arith) z))))
-
--- no three quads are a crowd
-no-crowd : {cells : List ℕ} {g : Grouping} {s : ℕ} {L : ℕ → Pair} → Fits quads cells s L → Labelling quads cells g s L
-no-crowd f = record { clear = record { clear = λ p q r hp hq hr ep eq er pq qr pr crowd. crowd }; fits = f }
+count-equal w d v (suc n) h = omega (arith, count-equal w d v n (λ q l. h q (omega arith)), mark-le (mark w n) (cond (eqb (d n) v) 1 0) (λ z. ap (λ (b : Bool). cond b 1 0) (eq-eqb (d n) v (h n (omega arith) z))))
 
 -- ---- the outcomes
 
@@ -96,14 +94,14 @@ module _ {span : ℕ} {cells : List ℕ} {g : Grouping} {s m : ℕ} {xs : List �
     fitted-few f = omega (arith, f .cover .counted, count-equal ys (g .number) s (g .n) (λ q h z. sym (reached-number (u .groups) (f .only q h z)) ∙ number-is e))
 
     pub fitted-small : {t : ℕ} → Fitted span cells (g .n) s ys t → t ≤ g .n
-    fitted-small f = omega (arith, fitted-few f, equal-le (g .number) s (g .n))
+    fitted-small f = omega (arith, fitted-few f, equal-how-many (g .number) s (g .n), equal-le (g .number) s (g .n))
 
     -- and the seed at least
     fitted-some : {t : ℕ} → Fitted span cells (g .n) s ys t → t ≢ 0
     fitted-some f z = omega (arith, f .cover .waits s small (f .all s here) .small)
 
     pub fitted-room : {t : ℕ} → Fitted span cells (g .n) s ys t → m + 4 * t ≤ 4 * g .n
-    fitted-room f = omega (arith, fitted-few f, u .gathered .few, below-step (g .number) s (g .n), below-le (g .number) (g .n) (s + 1))
+    fitted-room f = omega (arith, fitted-few f, equal-how-many (g .number) s (g .n), u .gathered .few, below-step (g .number) s (g .n), below-le (g .number) (g .n) (s + 1))
 
     pub underway-laid : {zs : List ℕ} {r t : ℕ} → Fitted span cells (g .n) s ys t → Taken span (g .n) s ys zs m r t → Underway span cells g (s + 1) r (set zs (walkedAt span (g .n) + s) t)
     underway-laid {zs} {r} {t} k c = with-word t (stepped-take (u .table) room rest c) room
@@ -126,13 +124,13 @@ module _ {span : ℕ} {cells : List ℕ} {g : Grouping} {s m : ℕ} {xs : List �
 
 -- ---- where the walks begin
 
-pub underway-start : {span : ℕ} {cells : List ℕ} {n : ℕ} {w : List ℕ} (params : LabelParams) → 4 * span + 27 * n ≤ length w → Ready span cells n w → Underway span cells (groupingBy n (numbersIn span n w) params) 0 0 w
-underway-start params room r = record {
+pub underway-start : {span : ℕ} {cells : List ℕ} {n : ℕ} {w : List ℕ} (params : LabelParams) → 4 * span + 27 * n ≤ length w → Ready span cells n w → Underway span cells (groupingBy n (numbersIn span n w) (params .quads) (params .corners)) 0 0 w
+underway-start {span} {n = n} {w} params room r = record {
   room = room;
   table = r .table;
   blank = r .blank;
   groups = r .groups;
   numbers = λ q h. refl;
   unscanned = λ q l h e. record { none = λ i b t. r .flags _ (r .table .runs i b) };
-  gathered = record { walks = λ q h. absurd (omega arith); sizes = λ q h. r .sizes q h; own = λ k h. absurd (omega arith); few = omega arith };
+  gathered = record { walks = λ q h. absurd (omega arith); sizes = λ q h. r .sizes q h ∙ equal-how-many (numbersIn span n w) q n; own = λ k h. absurd (omega arith); few = omega arith };
 }

@@ -2,20 +2,20 @@
 use mathlib.Core.Path.{_≡_, sym, ap, _∙_}
 use mathlib.Core.List.{List}
 use Prim.Native.Nat.{ℕ, _/_, _<_}
-use Rattle.words.specs.Order.{groupedOf, Ordered}
+use Rattle.words.specs.inner.Order.{groupedOf, Ordered}
 use Rattle.cells.specs.Kind.{Pair}
-use Rattle.fates.specs.Fates.{cornerIn, seedIn, Holding}
-use Rattle.fates.specs.Singles.{Copied}
+use Rattle.fates.specs.inner.Fates.{cornerIn, seedIn, Holding}
+use Rattle.fates.specs.inner.Singles.{CopyOf}
 use Rattle.fates.proofs.Picking.{seed-copied, there, back}
 
-pub corner-copied : {xs ys : List ℕ} {a b k i : ℕ} → Copied xs ys a b k i → cornerIn ys b i ≡ cornerIn xs a k
+pub corner-copied : {xs ys : List ℕ} {a b k i : ℕ} → CopyOf xs ys a b k i → cornerIn ys b i ≡ cornerIn xs a k
 corner-copied p = ap (λ (z : ℕ). z / 4096) (p .number)
 
 module _ {P : ℕ → Type 0} {L : ℕ → Pair} {s : ℕ} {xs ys : List ℕ} {a b m : ℕ} (O : Ordered (groupedOf xs a) xs ys a b m) (H : Holding P L s xs a m) where
-  came : (k : ℕ) → k < m → Copied xs ys a a (O .order .from k) k
+  came : (k : ℕ) → k < m → CopyOf xs ys a a (O .order .from k) k
   came = there xs ys a b m O
 
-  goes : (k : ℕ) → k < m → Copied xs ys a a k (O .order .to k)
+  goes : (k : ℕ) → k < m → CopyOf xs ys a a k (O .order .to k)
   goes = back xs ys a b m O
 
   own-seed : (k : ℕ) → k < m → seedIn ys a k ≡ s → seedIn xs a (O .order .from k) ≡ s

@@ -21,3 +21,4 @@ pub mod Verdicts
 pub mod Becoming
 pub mod Routines
 pub mod OneFate
+pub mod Bounded

@@ -8,15 +8,15 @@ use native.Mathlib.Decide.{decLt}
 use native.Mathlib.Omega.{arith}
 use lib.IntN.{ℤ}
 use lib.ListN.{length}
-use Rattle.words.specs.Order.{groupedOf}
+use Rattle.words.specs.inner.Order.{groupedOf}
 use Rattle.words.proofs.Rank.{below-le}
 use Rattle.cells.specs.Kind.{Pair, ReachedCorner, Lone}
 use Rattle.cells.specs.Listed.{Grouping}
 use Rattle.cells.specs.Quads.{quads}
-use Rattle.laying.specs.Layout.{label}
-use Rattle.fates.specs.Fates.{fatesAt, recordsAt, walkedAt, loneAt, fateOf, walkedOf, cornerIn, seedIn, Keyed, Holding, Laid, Walk, Owned, Gathered, Alone}
-use Rattle.fates.specs.Fates.Walk.{within, none, laid}
-use Rattle.fates.specs.Singles.{Single, Copied, From, To, Batch, LoneFrom}
+use Rattle.laying.specs.inner.Layout.{label}
+use Rattle.fates.specs.inner.Fates.{fatesAt, recordsAt, walkedAt, loneAt, fateOf, walkedOf, cornerIn, seedIn, Keyed, Holding, Laid, Walk, Owned, Gathered, Alone}
+use Rattle.fates.specs.inner.Fates.Walk.{within, none, laid}
+use Rattle.fates.specs.inner.Singles.{Unique, CopyOf, From, To, Batch, LoneFrom}
 use Rattle.laying.proofs.Reading.{same-word}
 use Rattle.fates.proofs.Holdings.{walk-with}
 use Rattle.fates.proofs.Picking.{seed-copied, grouped-copied, there, ordered-ascends}
@@ -25,12 +25,12 @@ use Rattle.fates.proofs.InOrder.{corner-copied, ordered-holding}
 -- ---- keys and pairs
 
 pub key-small : {p : Pair} {key : ℕ} → Keyed p key → key < 4294967296
-key-small K = omega (arith, K .is, K .x-small, K .y-small)
+key-small K = omega (arith, K .is, K .x-near .high, K .y-near .high)
 
 pub same-pair : {p q : Pair} {k l : ℕ} → Keyed p k → Keyed q l → k ≡ l → p ≡ q
 same-pair K M e =
-    let x : K .x ≡ M .x = omega (arith, K .is, M .is, K .x-small, K .y-small, M .x-small, M .y-small) in
-    let y : K .y ≡ M .y = omega (arith, K .is, M .is, K .x-small, K .y-small, M .x-small, M .y-small) in
+    let x : K .x ≡ M .x = omega (arith, K .is, M .is, K .x-near .high, K .y-near .high, M .x-near .high, M .y-near .high) in
+    let y : K .y ≡ M .y = omega (arith, K .is, M .is, K .x-near .high, K .y-near .high, M .x-near .high, M .y-near .high) in
     K .pair ∙ ap₂ (λ (u v : ℤ). (u, v)) (ap label x) (ap label y) ∙ sym (M .pair)
 
 pub same-key : {p q : Pair} {k l : ℕ} → Keyed p k → Keyed q l → p ≡ q → k ≡ l
@@ -43,7 +43,7 @@ same-key {p} {q} K M e =
 -- ---- the records of one seed
 
 module _ (cells : List ℕ) (s : ℕ) (L : ℕ → Pair) (xs : List ℕ) (a m : ℕ) (H : Holding (λ c. ReachedCorner quads cells s c) L s xs a m) where
-  single-lone : (k : ℕ) → k < m → seedIn xs a k ≡ s → Single xs a m k → Lone quads cells s L (cornerIn xs a k)
+  single-lone : (k : ℕ) → k < m → seedIn xs a k ≡ s → Unique xs a m k → Lone quads cells s L (cornerIn xs a k)
   single-lone k h e o = record {
     reached = H .sound k h e;
     alone = λ d p q. sym (H .is d p) ∙ ap (cornerIn xs a) (o (H .place d p) (H .placed d p) (record {
@@ -52,7 +52,7 @@ module _ (cells : List ℕ) (s : ℕ) (L : ℕ → Pair) (xs : List ℕ) (a m : 
     }));
   }
 
-  lone-single : (k : ℕ) → k < m → seedIn xs a k ≡ s → Lone quads cells s L (cornerIn xs a k) → Single xs a m k
+  lone-single : (k : ℕ) → k < m → seedIn xs a k ≡ s → Lone quads cells s L (cornerIn xs a k) → Unique xs a m k
   lone-single k h e o j l t =
       let f : seedIn xs a j ≡ s = t .seed ∙ e in
       H .once j k l h f e (o .alone (cornerIn xs a j) (H .sound j l f) (same-pair (H .keyed j l f) (H .keyed k h e) (t .key)))
@@ -128,7 +128,7 @@ module _ (cells : List ℕ) (g : Grouping) (span m : ℕ) (xs : List ℕ) (G : G
     same-size q h = F .ordered .rest (fatesAt span (g .n) + q) (λ j l e. omega arith) (λ j l e. omega (arith, few-records))
 
     -- a record is still of the group of which it was
-    owned-copied : {b j k : ℕ} → j < m → Copied xs ys a b j k → Owned cells g span (g .n) b ys k
+    owned-copied : {b j k : ℕ} → j < m → CopyOf xs ys a b j k → Owned cells g span (g .n) b ys k
     owned-copied {b} {j} {k} h p =
         let o = G .own j h in
         let e = seed-copied p in

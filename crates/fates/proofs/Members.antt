@@ -1,15 +1,18 @@
 -- Counting by key in a region: word s holds the number of places so far whose key is s, and a store at the next place's key keeps that.
 -- Assumes nothing.
-use mathlib.Core.Path.{_≡_, sym, ap, _∙_}
+use mathlib.Core.Path.{_≡_, refl, sym, ap, ap₂, _∙_}
+use mathlib.Core.Bool.{Bool, true, false, cond}
 use mathlib.Core.List.{List}
-use Prim.Native.Nat.{ℕ, _+_, _≤_, _<_}
-use native.Mathlib.Decide.{ℕ-discrete}
+use Prim.Native.Nat.{ℕ, zero, suc, _+_, _≤_, _<_}
 use native.Mathlib.Omega.{arith}
+use lib.Dec.{eqb}
 use lib.ListN.{length, getD, set}
-use Rattle.words.specs.Regions.{Filled}
-use Rattle.words.specs.Sorting.{equal}
+use Rattle.words.specs.inner.Regions.{Filled}
+use Rattle.words.specs.Sorting.{one, equal}
 use Rattle.words.proofs.Regions.{kept-refl, kept-trans, filled-at}
-use Rattle.words.proofs.Rank.{rec-on, equal-zero, equal-yes, equal-no, equal-le}
+use Rattle.words.proofs.Rank.{equal-zero, equal-yes, equal-no, equal-le}
+use Rattle.cells.specs.Sums.{total, howMany}
+use Rattle.cells.proofs.Sums.{how-many-same}
 
 abbrev pub Counted : (ℕ → ℕ) → ℕ → List ℕ → List ℕ → ℕ → ℕ → Type 0
 Counted key j xs ys a m = Filled xs ys a m m (equal key j)
@@ -26,14 +29,20 @@ counted-more key j {xs} {ys} {a} {m} s v q b e h w =
 pub counted-most : (key : ℕ → ℕ) (j : ℕ) {xs ys : List ℕ} {a m : ℕ} → Counted key j xs ys a m → (s : ℕ) → s < m → getD ys (a + s) 0 ≤ j
 counted-most key j q s h = omega (arith, q .holds s h, equal-le key s j)
 
+-- what is counted by key is counted by a test
+one-is : (b : Bool) → one b ≡ cond b 1 0
+unfolding one
+one-is true = refl
+one-is false = refl
+
+pub equal-how-many : (d : ℕ → ℕ) (v n : ℕ) → equal d n v ≡ howMany (λ (q : ℕ). eqb (d q) v) n
+unfolding equal total
+equal-how-many d v zero = refl
+equal-how-many d v (suc n) = ap₂ _+_ (equal-how-many d v n) (one-is (eqb (d n) v))
+
 -- the count is by the keys of the places below n alone
 pub equal-same : (d f : ℕ → ℕ) (v n : ℕ) → ((i : ℕ) → i < n → d i ≡ f i) → equal d n v ≡ equal f n v
-equal-same d f v = rec-on (λ n. ((i : ℕ) → i < n → d i ≡ f i) → equal d n v ≡ equal f n v) (λ h. equal-zero d v ∙ sym (equal-zero f v))
-    (λ n ih h. turn n (ih (λ i l. h i (omega arith))) (h n (omega arith)) (ℕ-discrete (d n) v))
-  where
-    turn : (n : ℕ) → equal d n v ≡ equal f n v → d n ≡ f n → Dec (d n ≡ v) → equal d (n + 1) v ≡ equal f (n + 1) v
-    turn n e s (yes y) = equal-yes d n v y ∙ ap (λ (z : ℕ). z + 1) e ∙ sym (equal-yes f n v (sym s ∙ y))
-    turn n e s (no y) = equal-no d n v y ∙ e ∙ sym (equal-no f n v (λ z. y (s ∙ z)))
+equal-same d f v n h = equal-how-many d v n ∙ how-many-same (λ (q : ℕ). eqb (f q) v) (λ (q : ℕ). eqb (d q) v) n (λ i l. ap (λ (k : ℕ). eqb k v) (h i l)) ∙ sym (equal-how-many f v n)
 
 -- a region of zeros after the keys, which are n words from `at` on, and then the count in it
 module _ (xs ys : List ℕ) (at n : ℕ) (zeros : Filled xs ys (at + n) n n (λ (k : ℕ). 0)) where

@@ -12,13 +12,15 @@ use Rattle.words.proofs.Rank.{below-step}
 use Rattle.cells.specs.Kind.{Reached}
 use Rattle.cells.specs.Listed.{Grouping, members}
 use Rattle.cells.specs.Quads.{quads}
-use Rattle.laying.specs.Layout.{runOf, flagsAt, Given, Table, Blank}
-use Rattle.laying.specs.Moves.{Rest}
-use Rattle.laying.specs.Answers.{Cleared}
-use Rattle.fates.specs.Fates.{groupsAt, fatesAt, recordsAt, walkedAt, walkedOf, seedIn, Walk, reachedFrom, Owned}
-use Rattle.fates.specs.Gathering.{Taken, Underway}
-use Rattle.fates.proofs.Holdings.{Appended, holding-more, walk-with}
-use Rattle.fates.proofs.OwnRuns.{other-unscanned, table-kept}
+use Rattle.laying.specs.inner.Layout.{runOf, flagsAt, Given, Table, Blank}
+use Rattle.laying.specs.inner.Moves.{Rest}
+use Rattle.laying.specs.inner.Answers.{Cleared}
+use Rattle.laying.proofs.Resting.{table-kept}
+use Rattle.fates.specs.inner.Fates.{groupsAt, fatesAt, recordsAt, walkedAt, walkedOf, seedIn, Walk, reachedFrom, Owned}
+use Rattle.fates.specs.inner.Gathering.{Taken, Underway}
+use Rattle.fates.proofs.Members.{equal-how-many}
+use Rattle.fates.proofs.Holdings.{Appended, same-seed, holding-more, walk-with}
+use Rattle.fates.proofs.OwnRuns.{other-unscanned}
 
 -- ---- what a seed may change
 
@@ -87,9 +89,6 @@ module _ {span : ℕ} {cells : List ℕ} {g : Grouping} {s m r : ℕ} {xs ys : L
   appended : Appended a m r xs ys
   appended = record { more = t .more; same = λ k i h l. t .front (a + 2 * k + i) (omega arith) (omega arith) }
 
-  same-seed : (k : ℕ) → k < m → seedIn ys a k ≡ seedIn xs a k
-  same-seed k h = ap (λ (w : ℕ). w % 4096) (appended .same k 1 h (omega arith))
-
   early-walk : (q : ℕ) → q < s → Walk cells g (reachedFrom cells g q) q ys a r (walkedOf span (g .n) ys q)
   early-walk q h = rw (t .words q (λ e. omega arith)) (walk-with (λ L H. holding-more H appended (λ k l b e. omega (arith, t .own k l b))) (u .gathered .walks q h))
 
@@ -106,7 +105,7 @@ module _ {span : ℕ} {cells : List ℕ} {g : Grouping} {s m r : ℕ} {xs ys : L
       walks = λ q h. walks q h (ℕ-discrete q s);
       sizes = λ q h. t .front (fatesAt span (g .n) + q) (omega arith) (omega arith) ∙ u .gathered .sizes q h;
       own = λ k h. own k h (decLt k m);
-      few = omega (arith, u .gathered .few, below-step (g .number) s (g .n));
+      few = omega (arith, u .gathered .few, below-step (g .number) s (g .n), equal-how-many (g .number) s (g .n));
     };
   }
     where
@@ -118,9 +117,9 @@ module _ {span : ℕ} {cells : List ℕ} {g : Grouping} {s m r : ℕ} {xs ys : L
       own k h (yes b) =
           let o = u .gathered .own k b in
           record {
-            small = omega (arith, same-seed k b, o .small);
-            lowest = rw (same-seed k b) (o .lowest);
-            walked = rw (same-seed k b, t .words (seedIn xs a k) (λ e. omega (arith, o .small))) (o .walked);
+            small = omega (arith, same-seed xs ys a m (appended .same) k b, o .small);
+            lowest = rw (same-seed xs ys a m (appended .same) k b) (o .lowest);
+            walked = rw (same-seed xs ys a m (appended .same) k b, t .words (seedIn xs a k) (λ e. omega (arith, o .small))) (o .walked);
           }
       own k h (no b) =
           let e = t .own k (omega arith) h in

@@ -3,9 +3,9 @@
 use mathlib.Core.Path.{_≡_, refl, sym, ap, _∙_}
 use mathlib.Core.Logic.{_≢_, _⊎_, inl, inr}
 use mathlib.Core.List.{List}
-use Prim.Native.Nat.{ℕ, _+_, _*_, _/_, _≤_, _<_}
+use Prim.Native.Nat.{ℕ, _+_, _*_, _/_, _<_}
 use native.Mathlib.Omega.{arith}
-use lib.ListN.{length, getD}
+use lib.ListN.{getD}
 use Rattle.cells.specs.Cells.{cell, Touch, everyone, Neighbours}
 use Rattle.cells.specs.Cells.Touch.{alike, opposite}
 use Rattle.cells.specs.Groups.{Groups}
@@ -15,7 +15,7 @@ use Rattle.cells.proofs.Groups.{linked-equal}
 use Rattle.cells.proofs.Keys.{equal-ends}
 use Rattle.cells.proofs.Squares.{quad-laws}
 use Rattle.cells.proofs.Unique.{reached-linked}
-use Rattle.laying.specs.Layout.{keyAt, numberAt, runOf, flagsAt, startOf, endOf, Given, Table, Unscanned}
+use Rattle.laying.specs.inner.Layout.{keyAt, runOf, flagsAt, sideStart, sideEnd, Given, Table, Unscanned}
 use Rattle.laying.proofs.Facing.{side-of, corner-below}
 
 -- what is reached from a quad has its number
@@ -24,13 +24,13 @@ reached-number {cells} g r = linked-equal g (reached-linked quads quad-laws cell
 
 module _ {span : ℕ} {cells : List ℕ} {n : ℕ} {w : List ℕ} (given : Given span cells n) (table : Table span cells n w) where
   one-run-touch : (e f : ℕ) → e < 4 * n → f < 4 * n → runOf span n w e ≡ runOf span n w f → Touch 4 (cell 4 cells (e / 4)) (cell 4 cells (f / 4))
-  one-run-touch e f he hf s = go (equal-ends (startOf cells e) (endOf cells e) (startOf cells f) (endOf cells f) (small e e he) (small e (e + 1) he) (small f f hf) (small f (f + 1) hf)
+  one-run-touch e f he hf s = go (equal-ends (sideStart cells e) (sideEnd cells e) (sideStart cells f) (sideEnd cells f) (small e e he) (small e (e + 1) he) (small f f hf) (small f (f + 1) hf)
       (sym (table .key e he) ∙ ap (keyAt span w) s ∙ table .key f hf))
     where
       small : (e k : ℕ) → e < 4 * n → cell 4 cells (e / 4) k < 4096
       small e k h = omega (arith, corner-below given (e / 4) k (omega arith), given .most)
 
-      go : ((startOf cells e ≡ startOf cells f) × (endOf cells e ≡ endOf cells f)) ⊎ ((startOf cells e ≡ endOf cells f) × (endOf cells e ≡ startOf cells f)) → Touch 4 (cell 4 cells (e / 4)) (cell 4 cells (f / 4))
+      go : ((sideStart cells e ≡ sideStart cells f) × (sideEnd cells e ≡ sideEnd cells f)) ⊎ ((sideStart cells e ≡ sideEnd cells f) × (sideEnd cells e ≡ sideStart cells f)) → Touch 4 (cell 4 cells (e / 4)) (cell 4 cells (f / 4))
       go (inl t) = alike (side-of cells e) (rw (t .0, t .1) (side-of cells f))
       go (inr t) = opposite (side-of cells e) (rw (t .0, t .1) (side-of cells f))
 
@@ -47,30 +47,3 @@ module _ {span : ℕ} {cells : List ℕ} {n : ℕ} {w : List ℕ} (given : Given
     where
       clash : (e : ℕ) → e < 4 * n → Reached quads cells q (e / 4) → (f : ℕ) → f < 4 * n → Reached quads cells s (f / 4) → runOf span n w e ≡ runOf span n w f → ⊥
       clash e h r f l t same = apart (reached-number g t ∙ sym (one-run-number g e f h l same) ∙ sym (reached-number g r))
-
--- the table depends on its own words only
-pub table-kept : {span : ℕ} {cells : List ℕ} {n : ℕ} {xs ys : List ℕ} → Table span cells n xs → length ys ≡ length xs → ((k : ℕ) → 4 * span ≤ k → k < 4 * span + 12 * n → getD ys k 0 ≡ getD xs k 0) → Table span cells n ys
-table-kept {span} {cells} {n} {xs} {ys} t len same = record {
-  room = omega (arith, t .room);
-  sides = λ i h. rw (number i h) (t .sides i h);
-  runs = λ e h. rw (run e h) (t .runs e h);
-  key = λ e h. ap (keyAt span ys) (run e h) ∙ key (runOf span n xs e) (t .runs e h) ∙ t .key e h;
-  meets = λ e g he hg a.
-      let p = t .meets e g he hg a in
-      record {
-        at = p .at;
-        from = rw (run e he) (p .from);
-        small = p .small;
-        is = number (p .at) (p .small) ∙ p .is;
-        run = λ i l h. key i (omega (arith, p .small)) ∙ p .run i (rw (run e he) at l) h ∙ sym (key (runOf span n xs e) (t .runs e he)) ∙ ap (keyAt span ys) (sym (run e he));
-      };
-}
-  where
-    run : (e : ℕ) → e < 4 * n → runOf span n ys e ≡ runOf span n xs e
-    run e h = same (4 * span + 8 * n + e) (omega arith) (omega arith)
-
-    key : (i : ℕ) → i < 4 * n → keyAt span ys i ≡ keyAt span xs i
-    key i h = same (4 * span + 2 * i) (omega arith) (omega arith)
-
-    number : (i : ℕ) → i < 4 * n → numberAt span ys i ≡ numberAt span xs i
-    number i h = same (4 * span + 2 * i + 1) (omega arith) (omega arith)

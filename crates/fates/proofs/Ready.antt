@@ -4,15 +4,15 @@ use mathlib.Core.List.{List}
 use Prim.Native.Nat.{ℕ, _+_, _*_, _-_, _/_, _≤_, _<_}
 use native.Mathlib.Omega.{arith}
 use lib.ListN.{length, getD}
-use Rattle.words.specs.Regions.{Filled}
+use Rattle.words.specs.inner.Regions.{Filled}
 use Rattle.words.specs.Sorting.{equal}
 use Rattle.cells.specs.Cells.{everyone}
-use Rattle.cells.specs.Sides.{sideKey}
+use Rattle.cells.specs.inner.Sides.{sideKey}
 use Rattle.cells.proofs.Groups.{groups-same}
-use Rattle.laying.specs.Layout.{flagsAt, Given}
-use Rattle.fates.specs.Fates.{groupsAt, fatesAt}
-use Rattle.fates.specs.Runs.{Rising, Told}
-use Rattle.fates.specs.Prepared.{Sided, Ready}
+use Rattle.laying.specs.inner.Layout.{flagsAt, Given}
+use Rattle.fates.specs.inner.Fates.{groupsAt, fatesAt}
+use Rattle.fates.specs.inner.Runs.{Rising, Told}
+use Rattle.fates.specs.inner.Prepared.{Sided, Ready}
 use Rattle.fates.proofs.RunStarts.{walk-table}
 use Rattle.fates.proofs.Members.{equal-same}
 use Rattle.fates.proofs.Seating.{inside}

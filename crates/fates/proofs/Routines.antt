@@ -5,24 +5,25 @@ use mathlib.Core.List.{List}
 use Prim.Native.Nat.{ℕ, _+_, _*_, _≤_}
 use native.Mathlib.Omega.{arith}
 use lib.ListN.{length}
-use Rattle.laying.specs.Layout.{Given}
+use Rattle.laying.specs.inner.Layout.{Given}
+use Rattle.cells.specs.Listed.{groupingBy}
 use Rattle.fates.specs.declared.LabelParams.{LabelParams}
-use Rattle.fates.specs.Fates.{groupingBy, recordsAt, loneAt, Alone}
-use Rattle.fates.specs.Prepared.{Ready}
-use Rattle.fates.specs.Gathering.{numbersIn, Gathers}
-use Rattle.fates.specs.Singles.{Batch, LoneFrom}
-use Rattle.fates.specs.Judging.{Judges, Tabled}
-use Rattle.fates.specs.Computed.{Computed}
+use Rattle.fates.specs.inner.Fates.{recordsAt, loneAt, Alone}
+use Rattle.fates.specs.inner.Prepared.{Ready}
+use Rattle.fates.specs.inner.Gathering.{numbersIn, Gathers}
+use Rattle.fates.specs.inner.Singles.{Batch, LoneFrom}
+use Rattle.fates.specs.inner.Judging.{Judges, Tabled}
+use Rattle.fates.specs.inner.Computed.{Computed}
 use Rattle.fates.proofs.LoneCorners.{batch-of, alone-from}
 use Rattle.fates.proofs.Becoming.{tabled, computed}
 
 module _ {span : ℕ} {cells : List ℕ} {n all : ℕ} {w0 w1 : List ℕ} (given : Given span cells n) (room : 4 * span + 27 * n ≤ length w0) (P : Ready span cells n w0) (G : Gathers span cells n all w0 w1) (params : LabelParams) where
   pub batch : Batch span n all w1
-  batch = batch-of cells (groupingBy n (numbersIn span n w0) params) span all w1 (G .gathered params) (omega (arith, G .len)) (omega (arith, given .few, given .most))
+  batch = batch-of cells (groupingBy n (numbersIn span n w0) (params .quads) (params .corners)) span all w1 (G .gathered params) (omega (arith, G .len)) (omega (arith, given .few, given .most))
 
   module _ {m : ℕ} {w2 : List ℕ} (F : LoneFrom w1 w2 (recordsAt span n) (loneAt span) all m) where
-    alone : Alone cells (groupingBy n (numbersIn span n w0) params) span all m w2
-    alone = alone-from cells (groupingBy n (numbersIn span n w0) params) span all w1 (G .gathered params) w2 m F
+    alone : Alone cells (groupingBy n (numbersIn span n w0) (params .quads) (params .corners)) span all m w2
+    alone = alone-from cells (groupingBy n (numbersIn span n w0) (params .quads) (params .corners)) span all w1 (G .gathered params) w2 m F
 
     pub tables : Tabled span n all m w2
     tables = tabled span cells n params (numbersIn span n w0) all m w2 (P .groups) alone given (omega (arith, F .ordered .len, G .len))

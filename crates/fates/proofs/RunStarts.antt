@@ -7,11 +7,11 @@ use native.Mathlib.Decide.{ℕ-discrete, decLt, decLe}
 use native.Mathlib.Omega.{arith}
 use lib.ListN.{length, getD, set}
 use Rattle.words.proofs.Regions.{set-cases, kept-refl, kept-set}
-use Rattle.cells.specs.Sides.{sideKey}
-use Rattle.laying.specs.Layout.{keyAt, numberAt, runOf, Across, Place, Table}
-use Rattle.fates.specs.Runs.{Rising, Begin, Told, Started}
-use Rattle.fates.specs.Runs.Started.{new, old}
-use Rattle.fates.specs.Prepared.{SideTable}
+use Rattle.cells.specs.inner.Sides.{sideKey}
+use Rattle.laying.specs.inner.Layout.{keyAt, numberAt, runOf, Across, InRun, Table}
+use Rattle.fates.specs.inner.Runs.{Rising, Begin, Told, Started}
+use Rattle.fates.specs.inner.Runs.Started.{new, old}
+use Rattle.fates.specs.inner.Prepared.{SideTable}
 
 -- ---- one place more
 
@@ -122,7 +122,7 @@ module _ (span : ℕ) (cells : List ℕ) (n : ℕ) (xs ys zs : List ℕ) (T : Si
     level i x y (yes d) = begin-of e he .run i x d
     level i x y (no d) = omega (arith, T .ascends (T .placeOf e) i (omega arith) (omega (arith, T .small g hg)), T .ascends i (T .placeOf g) y (T .small g hg), one-key)
 
-    meets : Place span n zs e g
+    meets : InRun span n zs e g
     meets = record {
       at = T .placeOf g;
       from = from (decLe (runOf span n zs e) (T .placeOf g));

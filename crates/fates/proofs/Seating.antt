@@ -9,17 +9,17 @@ use borrow.Author.Tests.{eq-eqb}
 use borrow.Rule.Slice.PartMut.{midOf, putMid, mid-len}
 use lib.ListN.{length, getD, drop}
 use lib.Seq.{getD-take, getD-drop}
-use Rattle.words.specs.Regions.{Filled}
+use Rattle.words.specs.inner.Regions.{Filled}
 use Rattle.words.proofs.Regions.{part-in, part-len}
 use Rattle.cells.specs.Cells.{Neighbours, everyone}
 use Rattle.cells.specs.Groups.{Groups}
 use Rattle.cells.specs.Groups.Linked.{same, on}
-use Rattle.cells.specs.Table.{unmarked, groupsEnd, Sound}
-use Rattle.cells.specs.Sides as sides
-use Rattle.cells.specs.Sides.{sideKey, Stands, Grouped}
+use Rattle.cells.specs.inner.Table.{unmarked, groupsEnd, Sound}
+use Rattle.cells.specs.inner.Sides as sides
+use Rattle.cells.specs.inner.Sides.{sideKey, Stands, Grouped}
 use Rattle.cells.proofs.Groups.{same-groups, groups-same}
-use Rattle.laying.specs.Layout.{keyAt, numberAt, Given}
-use Rattle.fates.specs.Prepared.{SideTable, Sided}
+use Rattle.laying.specs.inner.Layout.{keyAt, numberAt, Given}
+use Rattle.fates.specs.inner.Prepared.{SideTable, Sided}
 
 pub sound : {span : ℕ} {cells : List ℕ} {n : ℕ} → Given span cells n → Sound 4 cells n
 sound g = record {

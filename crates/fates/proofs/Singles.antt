@@ -9,8 +9,8 @@ use native.Mathlib.Omega.{arith}
 use borrow.Author.Tests.{eqb-true, eqb-false}
 use lib.Dec.{eqb}
 use lib.ListN.{getD}
-use Rattle.words.specs.Order.{groupedOf}
-use Rattle.fates.specs.Singles.{Alike, Single, Follows, Tells, Rising}
+use Rattle.words.specs.inner.Order.{groupedOf}
+use Rattle.fates.specs.inner.Singles.{Alike, Unique, Follows, Tells, SeedOrder}
 
 pub told-true : {P : Type 0} → P → Tells P true
 told-true p = record { holds = λ e. p; fails = λ e. absurd (false≢true (sym e)) }
@@ -42,16 +42,16 @@ module _ (w : List ℕ) (a : ℕ) where
 -- ---- and the one after it
 
 module _ (w : List ℕ) (a m k : ℕ) where
-  pub single-follows-none : k < m → Single w a m k → Follows w a k → ⊥
+  pub single-follows-none : k < m → Unique w a m k → Follows w a k → ⊥
   single-follows-none h s f = omega (arith, f .next, s (f .before) (omega (arith, f .next)) (f .alike))
 
-  single-followed-by-none : k + 1 < m → Single w a m k → Follows w a (k + 1) → ⊥
+  single-followed-by-none : k + 1 < m → Unique w a m k → Follows w a (k + 1) → ⊥
   single-followed-by-none h s f =
       let e : f .before ≡ k = omega (arith, f .next) in
       let t : Alike w a k (k + 1) = rw e at (f .alike) in
       omega (arith, s (k + 1) h (record { seed = sym (t .seed); key = sym (t .key) }))
 
-module _ (w : List ℕ) (a m : ℕ) (R : Rising w a m) where
+module _ (w : List ℕ) (a m : ℕ) (R : SeedOrder w a m) where
   pub alike-of : (j k : ℕ) → j < m → k < m → groupedOf w a j ≡ groupedOf w a k → Alike w a j k
   alike-of j k hj hk e = record { seed = omega (arith, R .small j hj, R .small k hk); key = omega (arith, R .small j hj, R .small k hk) }
 
@@ -62,7 +62,7 @@ module _ (w : List ℕ) (a m : ℕ) (R : Rising w a m) where
   between : (i j k : ℕ) → i ≤ j → j ≤ k → k < m → groupedOf w a i ≡ groupedOf w a k → groupedOf w a i ≡ groupedOf w a j
   between i j k p q h e = omega (arith, R .rises i j p (omega arith), R .rises j k q h)
 
-  pub single-by-neighbours : (k : ℕ) → k < m → (Follows w a k → ⊥) → (k + 1 < m → Follows w a (k + 1) → ⊥) → Single w a m k
+  pub single-by-neighbours : (k : ℕ) → k < m → (Follows w a k → ⊥) → (k + 1 < m → Follows w a (k + 1) → ⊥) → Unique w a m k
   single-by-neighbours k h p q j l s = go (decLt j k) (decLt k j)
     where
       go : Dec (j < k) → Dec (k < j) → j ≡ k
@@ -75,6 +75,6 @@ module _ (w : List ℕ) (a m : ℕ) (R : Rising w a m) where
       go (no b) (no d) = omega arith
 
   -- a record that is unlike the one before it is single unless the next is alike it
-  pub told-by-next : (r : Bool) (k : ℕ) → k + 1 < m → (Follows w a k → ⊥) → Tells (Follows w a (k + 1)) r → Tells (Single w a m k) (not r)
+  pub told-by-next : (r : Bool) (k : ℕ) → k + 1 < m → (Follows w a k → ⊥) → Tells (Follows w a (k + 1)) r → Tells (Unique w a m k) (not r)
   told-by-next true k h p t = told-false (λ s. single-followed-by-none w a m k h s (t .holds refl))
   told-by-next false k h p t = told-true (single-by-neighbours k (omega arith) p (λ l. t .fails refl))

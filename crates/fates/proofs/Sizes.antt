@@ -4,10 +4,13 @@ use mathlib.Core.Logic.{_≢_}
 use Prim.Native.Nat.{ℕ, _<_}
 use native.Mathlib.Decide.{ℕ-discrete}
 use native.Mathlib.Omega.{arith}
+use lib.Dec.{eqb}
 use Rattle.words.specs.Sorting.{equal}
 use Rattle.words.proofs.Rank.{rec-on, equal-zero, equal-no, equal-own}
+use Rattle.cells.specs.Sums.{howMany}
 use Rattle.cells.specs.Groups.{Groups}
 use Rattle.cells.proofs.Groups.{linked-equal}
+use Rattle.fates.proofs.Members.{equal-how-many}
 
 none-equal : (d : ℕ → ℕ) (v n : ℕ) → ((i : ℕ) → i < n → d i ≢ v) → equal d n v ≡ 0
 none-equal d v = rec-on (λ n. ((i : ℕ) → i < n → d i ≢ v) → equal d n v ≡ 0) (λ h. equal-zero d v) (λ n ih h. equal-no d n v (h n (omega arith)) ∙ ih (λ i l. h i (omega arith)))
@@ -17,12 +20,14 @@ module _ {E : ℕ → ℕ → Type 0} {n : ℕ} {number : ℕ → ℕ} (G : Grou
   own-number : (i : ℕ) → i < n → number i ≡ q → number q ≡ q
   own-number i l e = ap number (sym e) ∙ sym (linked-equal G (G .linked i l)) ∙ e
 
-  pub some-members : number q ≡ q → equal number n q ≢ 0
-  some-members e z = let l : equal number q (number q) < equal number n (number q) = equal-own number q n h in omega (arith, rw e at l)
+  pub some-members : number q ≡ q → howMany (λ (i : ℕ). eqb (number i) q) n ≢ 0
+  some-members e z =
+      let l : equal number q (number q) < equal number n (number q) = equal-own number q n h in
+      omega (arith, rw e at l, equal-how-many number q n)
 
-  pub lowest-by-members : equal number n q ≢ 0 → number q ≡ q
+  pub lowest-by-members : howMany (λ (i : ℕ). eqb (number i) q) n ≢ 0 → number q ≡ q
   lowest-by-members some = go (ℕ-discrete (number q) q)
     where
       go : Dec (number q ≡ q) → number q ≡ q
       go (yes e) = e
-      go (no e) = absurd (some (none-equal number q n (λ i l f. e (own-number i l f))))
+      go (no e) = absurd (some (sym (equal-how-many number q n) ∙ none-equal number q n (λ i l f. e (own-number i l f))))

@@ -4,14 +4,14 @@ use mathlib.Core.List.{List}
 use Prim.Native.Nat.{ℕ, _+_}
 use native.Mathlib.Omega.{arith}
 use lib.ListN.{length, getD, set, length-set}
-use Rattle.words.specs.Regions.{Outside}
+use Rattle.words.specs.inner.Regions.{Outside}
 use Rattle.laying.proofs.Settling.{skip, put}
 use Rattle.fates.specs.declared.Fate.{Fate}
 use Rattle.fates.specs.declared.Runs.{Runs}
-use Rattle.fates.specs.Fates.{fatesAt, walkedAt}
-use Rattle.fates.specs.Judged.{fateNumber, claimedIn, fateFrom, fateAt}
-use Rattle.fates.specs.Index.{indexAt}
-use Rattle.fates.specs.Judging.{withFate, withRuns, Spacious}
+use Rattle.fates.specs.inner.Fates.{fatesAt, walkedAt}
+use Rattle.fates.specs.inner.FateWords.{fateNumber, claimedIn, fateFrom, fateAt}
+use Rattle.fates.specs.inner.Index.{indexAt}
+use Rattle.fates.specs.inner.Judging.{withFate, withRuns, Spacious}
 use Rattle.fates.proofs.FateWords.{read-back}
 
 module _ (span n s : ℕ) (fate : Fate) (runs : Runs) (xs : List ℕ) (R : Spacious span n s xs) where

@@ -2,17 +2,17 @@
 -- same in another list, so is all that is said of them. Assumes nothing.
 use mathlib.Core.Path.{_≡_, sym, ap, ap₂, _∙_}
 use mathlib.Core.List.{List}
-use Prim.Native.Nat.{ℕ, _+_, _*_, _%_, _≤_, _<_}
+use Prim.Native.Nat.{ℕ, _+_, _*_, _≤_, _<_}
 use native.Mathlib.Decide.{ℕ-discrete, decLt}
 use native.Mathlib.Omega.{arith}
 use lib.ListN.{length}
-use Rattle.words.specs.Order.{wordOf, groupedOf}
+use Rattle.words.specs.inner.Order.{wordOf, groupedOf}
 use Rattle.cells.specs.Kind.{Pair}
-use Rattle.fates.specs.Fates.{keyIn, seedIn, Holding}
-use Rattle.fates.specs.Index.{Stretch}
-use Rattle.fates.specs.Singles.{Follows}
-use Rattle.fates.specs.Judging.{Lined, Cursor, Begins}
-use Rattle.fates.proofs.Holdings.{holding-more}
+use Rattle.fates.specs.inner.Fates.{keyIn, seedIn, Holding}
+use Rattle.fates.specs.inner.Index.{Stretch}
+use Rattle.fates.specs.inner.Singles.{Follows}
+use Rattle.fates.specs.inner.Judging.{Lined, Cursor, Begins}
+use Rattle.fates.proofs.Holdings.{same-seed, holding-more}
 
 -- ---- from stretch to stretch
 
@@ -48,32 +48,29 @@ module _ (xs ys : List ℕ) (a m : ℕ) (same : (k i : ℕ) → k < m → i < 2 
   same-key : (k : ℕ) → k < m → keyIn ys a k ≡ keyIn xs a k
   same-key k h = same k 0 h (omega arith)
 
-  same-seed : (k : ℕ) → k < m → seedIn ys a k ≡ seedIn xs a k
-  same-seed k h = ap (λ (x : ℕ). x % 4096) (same k 1 h (omega arith))
-
   pub same-grouped : (k : ℕ) → k < m → groupedOf ys a k ≡ groupedOf xs a k
-  same-grouped k h = ap₂ (λ (seed key : ℕ). seed * 4294967296 + key) (same-seed k h) (same-key k h)
+  same-grouped k h = ap₂ (λ (seed key : ℕ). seed * 4294967296 + key) (same-seed xs ys a m same k h) (same-key k h)
 
   pub same-lined : length ys ≡ length xs → Lined xs a m → Lined ys a m
   same-lined len l = record {
     room = omega (arith, l .room);
-    ascends = λ j k h e. rw (same-seed j (omega arith), same-seed k e) (l .ascends j k h e);
+    ascends = λ j k h e. rw (same-seed xs ys a m same j (omega arith), same-seed xs ys a m same k e) (l .ascends j k h e);
   }
 
   pub same-cursor : {s from : ℕ} → Cursor xs a m s from → Cursor ys a m s from
   same-cursor {s} {from} c = record {
     most = c .most;
-    before = λ k h. rw (same-seed k (omega (arith, c .most))) (c .before k h);
-    after = λ k h l. rw (same-seed k l) (c .after k h l);
+    before = λ k h. rw (same-seed xs ys a m same k (omega (arith, c .most))) (c .before k h);
+    after = λ k h l. rw (same-seed xs ys a m same k l) (c .after k h l);
   }
 
   pub same-stretch : {s from to : ℕ} → Stretch xs a m s from to → Stretch ys a m s from to
   same-stretch {s} {from} {to} r = record {
     up = r .up;
     most = r .most;
-    before = λ k h. rw (same-seed k (omega (arith, r .up, r .most))) (r .before k h);
-    within = λ k h l. same-seed k (omega (arith, r .most)) ∙ r .within k h l;
-    after = λ k h l. rw (same-seed k l) (r .after k h l);
+    before = λ k h. rw (same-seed xs ys a m same k (omega (arith, r .up, r .most))) (r .before k h);
+    within = λ k h l. same-seed xs ys a m same k (omega (arith, r .most)) ∙ r .within k h l;
+    after = λ k h l. rw (same-seed xs ys a m same k l) (r .after k h l);
   }
 
   pub same-holding : {P : ℕ → Type 0} {L : ℕ → Pair} {s : ℕ} → Holding P L s xs a m → Holding P L s ys a m
@@ -82,7 +79,7 @@ module _ (xs ys : List ℕ) (a m : ℕ) (same : (k i : ℕ) → k < m → i < 2 
   same-follows : (k : ℕ) → k < m → Follows xs a k → Follows ys a k
   same-follows k h f =
       let l : f .before < m = omega (arith, f .next) in
-      record { before = f .before; next = f .next; alike = record { seed = same-seed (f .before) l ∙ f .alike .seed ∙ sym (same-seed k h); key = same-key (f .before) l ∙ f .alike .key ∙ sym (same-key k h) } }
+      record { before = f .before; next = f .next; alike = record { seed = same-seed xs ys a m same (f .before) l ∙ f .alike .seed ∙ sym (same-seed xs ys a m same k h); key = same-key (f .before) l ∙ f .alike .key ∙ sym (same-key k h) } }
 
 module _ (xs ys : List ℕ) (a m : ℕ) (same : (k i : ℕ) → k < m → i < 2 → wordOf ys a i k ≡ wordOf xs a i k) where
   pub same-begins : (k : ℕ) → Begins xs a m k → Begins ys a m k

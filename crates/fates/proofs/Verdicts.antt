@@ -6,15 +6,15 @@ use Prim.Native.Nat.{ℕ, _+_, _*_, _-_, _≤_, _<_}
 use native.Mathlib.Decide.{ℕ-discrete}
 use native.Mathlib.Omega.{arith}
 use lib.ListN.{getD}
-use Rattle.words.specs.Order.{wordOf}
-use Rattle.words.specs.Regions.{Outside}
+use Rattle.words.specs.inner.Order.{wordOf}
+use Rattle.words.specs.inner.Regions.{Outside}
 use Rattle.cells.specs.Counted.{Exactly}
 use Rattle.cells.proofs.Counted.{exactly-same}
 use Rattle.fates.specs.declared.LabelParams.{LabelParams}
 use Rattle.fates.specs.declared.Runs.{Runs}
-use Rattle.fates.specs.Fates.{fatesAt, recordsAt, walkedAt, loneAt, fateOf, walkedOf}
-use Rattle.fates.specs.Index.{Stretch, indexAt}
-use Rattle.fates.specs.Judging.{Lined, Cursor, Begins, Spacious, Inside, Verdict, Settled, Ruled, Judges, Tabled}
+use Rattle.fates.specs.inner.Fates.{fatesAt, recordsAt, walkedAt, loneAt, fateOf, walkedOf}
+use Rattle.fates.specs.inner.Index.{Stretch, indexAt}
+use Rattle.fates.specs.inner.Judging.{Lined, Cursor, Begins, Spacious, Inside, Verdict, Settled, Ruled, Judges, Tabled}
 use Rattle.fates.proofs.Claims.{word-from}
 use Rattle.fates.proofs.Stretches.{same-lined, same-cursor, same-stretch, same-begins}
 use Rattle.fates.proofs.Stored.{stored-len, elsewhere, fate-there, lone-at, lone-count, all-at, all-count}

@@ -1,17 +1,16 @@
 -- What becomes of a quad's group: the first that applies of document 01's reasons to drop it, or it is kept; with a labelling, also how many
--- pairs are claimed by several corners. And the two words that say it.
+-- pairs are claimed by several corners.
 use mathlib.Core.Path.{_≡_}
 use mathlib.Core.Logic.{_≢_}
 use mathlib.Core.Bool.{Bool, true, false}
 use mathlib.Core.List.{List}
-use Prim.Native.Nat.{ℕ, zero, suc, _≤_, _<_}
+use Prim.Native.Nat.{ℕ, _≤_, _<_}
 use Rattle.cells.specs.Kind.{Pair, Lone, Claimed}
 use Rattle.cells.specs.Counted.{Exactly}
 use Rattle.cells.specs.Listed.{Grouping, members, Labelling}
 use Rattle.cells.specs.Quads.{quads}
 use Rattle.fates.specs.declared.Fate.{Fate}
 use Rattle.fates.specs.declared.Fate.the-variants.{NotLowest, TooFewQuads, NoLabelling, TooFewLone, Kept}
-use Rattle.fates.specs.Fates.{fateOf, walkedOf}
 
 module _ (cells : List ℕ) (g : Grouping) (s : ℕ) where
   -- quad s is the lowest of a group with the least quads, L is its labelling, so many corners are lone and so many pairs claimed by several
@@ -30,42 +29,7 @@ module _ (cells : List ℕ) (g : Grouping) (s : ℕ) where
     few-lone : {lone claimed : ℕ} → Labels lone claimed → lone < g .least-corners → Becomes (TooFewLone claimed)
     kept : {lone claimed : ℕ} → Labels lone claimed → g .least-corners ≤ lone → Becomes (Kept claimed)
 
--- ---- as words
-
--- in this order, from 0
-unfoldable pub fateNumber : Fate → ℕ
-fateNumber NotLowest = 0
-fateNumber TooFewQuads = 1
-fateNumber NoLabelling = 2
-fateNumber (TooFewLone claimed) = 3
-fateNumber (Kept claimed) = 4
-
-unfoldable pub claimedIn : Fate → ℕ
-claimedIn NotLowest = 0
-claimedIn TooFewQuads = 0
-claimedIn NoLabelling = 0
-claimedIn (TooFewLone claimed) = claimed
-claimedIn (Kept claimed) = claimed
-
-unfoldable pub fateFrom : ℕ → ℕ → Fate
-fateFrom zero claimed = NotLowest
-fateFrom (suc zero) claimed = TooFewQuads
-fateFrom (suc (suc zero)) claimed = NoLabelling
-fateFrom (suc (suc (suc zero))) claimed = TooFewLone claimed
-fateFrom (suc (suc (suc (suc more)))) claimed = Kept claimed
-
--- the fate of quad s as the workspace says it
-abbrev pub fateAt : ℕ → ℕ → List ℕ → ℕ → Fate
-fateAt span n w s = fateFrom (fateOf span n w s) (walkedOf span n w s)
-
--- a labelling was found
-unfoldable pub isLabelled : Fate → Bool
-isLabelled NotLowest = false
-isLabelled TooFewQuads = false
-isLabelled NoLabelling = false
-isLabelled (TooFewLone claimed) = true
-isLabelled (Kept claimed) = true
-
+-- the fate is to be kept
 unfoldable pub isKept : Fate → Bool
 isKept NotLowest = false
 isKept TooFewQuads = false

@@ -1,9 +1,2 @@
-pub mod Runs
-pub mod Fates
-pub mod Prepared
-pub mod Gathering
-pub mod Singles
 pub mod Judged
-pub mod Index
-pub mod Judging
-pub mod Computed
+pub mod inner

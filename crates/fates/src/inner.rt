@@ -3,10 +3,10 @@
 ghost use mathlib.Core.Path.{_≡_};
 ghost use Prim.Native.Nat.{_+_, _*_, _≤_, _<_, max};
 ghost use lib.ListN.{length};
-ghost use Rattle.laying.specs.Layout.{Given};
-ghost use Rattle.fates.specs.Computed.{Computed};
-ghost use Rattle.fates.specs.Judged.{fateAt};
-ghost use Rattle.fates.specs.Index.{runsAt};
+ghost use Rattle.laying.specs.inner.Layout.{Given};
+ghost use Rattle.fates.specs.inner.Computed.{Computed};
+ghost use Rattle.fates.specs.inner.FateWords.{fateAt};
+ghost use Rattle.fates.specs.inner.Index.{runsAt};
 use crate::Fate;
 use crate::LabelParams;
 use crate::Run;

@@ -1,5 +1,5 @@
 // What becomes of the groups of quads: too few quads, no labelling, too few lone corners, or kept; and the records of their corners.
-// `inner` has it for the calls above, which write it out, count it or check other labels by it.
+// `inner` has it for the calls that write it out.
 mod gather;
 pub mod inner;
 mod judge;

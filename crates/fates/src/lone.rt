@@ -2,10 +2,10 @@
 // differ from both neighbours. They go, in order, to the place of the table of the sides.
 ghost use Prim.Native.Nat.{_+_, _*_, _≤_, _<_};
 ghost use lib.ListN.{length};
-ghost use Rattle.words.specs.Order.{Room};
-ghost use Rattle.words.specs.Regions.{Kept};
-ghost use Rattle.fates.specs.Fates.{recordsAt, loneAt};
-ghost use Rattle.fates.specs.Singles.{Follows, Single, Tells, Rising, Taken, Picked, Batch, LoneFrom};
+ghost use Rattle.words.specs.inner.Order.{Room};
+ghost use Rattle.words.specs.inner.Regions.{Kept};
+ghost use Rattle.fates.specs.inner.Fates.{recordsAt, loneAt};
+ghost use Rattle.fates.specs.inner.Singles.{Follows, Unique, Tells, SeedOrder, Picks, Picked, Batch, LoneFrom};
 use laying::inner::layout::RECORDS;
 use laying::inner::layout::SEEDS;
 use words::inner::order::carry;
@@ -30,8 +30,8 @@ pub(crate) fn follows(work: &[u32], a: usize, k: usize) -> bool
 // Whether no other of the m ordered records from a on has the seed and key of record k.
 fn is_lone(work: &[u32], a: usize, m: usize, k: usize) -> bool
     requires { ⌜ (a + 2 * m ≤ length (now work)) × (k < m) ⌝ }
-    requires { ⌜ Rising (now work) a m ⌝ }
-    ensures { λ r. ⌜ Tells (Single (now (work .entry)) a m k) r ⌝ }
+    requires { ⌜ SeedOrder (now work) a m ⌝ }
+    ensures { λ r. ⌜ Tells (Unique (now (work .entry)) a m k) r ⌝ }
 {
     if follows(work, a, k) {
         return false;
@@ -45,8 +45,8 @@ fn is_lone(work: &[u32], a: usize, m: usize, k: usize) -> bool
 // Record k, if it is lone, goes behind the r that stand from b on; answers how many stand there.
 fn keep_at(work: &mut [u32], a: usize, b: usize, m: usize, k: usize, r: usize) -> usize
     requires { ⌜ Room (now work) a b m × (r ≤ k) × (k < m) ⌝ }
-    requires { ⌜ Rising (now work) a m ⌝ }
-    ensures { λ t. ⌜ Taken (now (work .entry)) (now (work .exit)) a b m k r t ⌝ }
+    requires { ⌜ SeedOrder (now work) a m ⌝ }
+    ensures { λ t. ⌜ Picks (now (work .entry)) (now (work .exit)) a b m k r t ⌝ }
 {
     if is_lone(work, a, m, k) {
         carry(work, a + 2 * k, b + 2 * r);
@@ -58,7 +58,7 @@ fn keep_at(work: &mut [u32], a: usize, b: usize, m: usize, k: usize, r: usize) -
 // The lone ones of the m ordered records from a on go to b, in order; answers how many they are.
 fn keep_lone(work: &mut [u32], a: usize, b: usize, m: usize) -> usize
     requires { ⌜ Room (now work) a b m ⌝ }
-    requires { ⌜ Rising (now work) a m ⌝ }
+    requires { ⌜ SeedOrder (now work) a m ⌝ }
     ensures { λ r. ⌜ Kept (now (work .entry)) (now (work .exit)) b (2 * m) × Picked (now (work .entry)) (now (work .exit)) a b m m r ⌝ }
 {
     let mut r = 0;

@@ -9,26 +9,26 @@ use lib.Ieee as Ieee
 use lib.Ieee.{Float, binary32}
 use lib.ListN.{length, getD}
 use Rattle.words.specs.Listing.{listing}
-use Rattle.words.specs.Regions.{Filled}
+use Rattle.words.specs.inner.Regions.{Filled}
 use Rattle.words.specs.Sorting.{one}
 use Rattle.words.proofs.Listing.{getD-listing}
 use Rattle.measure.proofs.LengthWords.{word-back}
 use Rattle.mesh.specs.Cells.{some}
 use Rattle.cells.specs.Cells.{Neighbours}
-use Rattle.cells.specs.Table.{unmarked, groupsAt}
+use Rattle.cells.specs.inner.Table.{unmarked, groupsAt}
 use Rattle.cells.specs.Groups.Linked.{same, on}
 use Rattle.cells.proofs.Groups.{same-groups}
 use Rattle.filter.specs.declared.FilterParams.{FilterParams}
 use Rattle.filter.specs.Input.{Input, quadCount, sideLength}
-use Rattle.filter.specs.Layout.{lengthsAt, mediansAt}
+use Rattle.filter.specs.inner.Layout.{lengthsAt, mediansAt}
 use Rattle.filter.specs.Topology.{crowded}
 use Rattle.filter.specs.Opposing.{uneven, skewed}
 use Rattle.filter.specs.Median.{Median}
 use Rattle.filter.specs.Size.{isSkipped, offSize, sidesTo}
 use Rattle.filter.specs.Marks.{markBy, left, Joined}
 use Rattle.filter.specs.Marks.Marked.{skipped, sized}
-use Rattle.filter.specs.Steps.{Sound, sideWord, lengthIn, skewMark, medianIn, sizeMark, lowerIn, MiddleWord, Weighed, Sized, Judged}
-use Rattle.filter.specs.Steps.Sized.{idle, weighed}
+use Rattle.filter.specs.inner.Steps.{Sound, sideWord, lengthIn, skewMark, medianIn, sizeMark, lowerIn, MiddleWord, Weighed, Sized, Judged}
+use Rattle.filter.specs.inner.Steps.Sized.{idle, weighed}
 use Rattle.filter.proofs.Ranked.{side-is, median-from-word}
 
 -- ---- the rules read four sides and no more

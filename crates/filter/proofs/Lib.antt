@@ -12,6 +12,7 @@ pub mod Ranked
 pub mod Proper
 pub mod Judging
 pub mod Sound
+pub mod SideRoots
 pub mod Kept
 pub mod Outcomes
 pub mod Picked

@@ -9,7 +9,7 @@ use lib.Dec.{eqb, ltb}
 use borrow.Author.Tests.{eq-eqb, ne-eqb, lt-ltb, le-ltb}
 use Rattle.words.specs.Sorting.{Sorting, one, equal, below}
 use Rattle.words.proofs.Cuts.{cut, cut-below}
-use Rattle.filter.specs.Steps.{Run, MiddleWord, lowerIn}
+use Rattle.filter.specs.inner.Steps.{Run, MiddleWord, lowerIn}
 
 abbrev pub keyed : ℕ → ℕ → ℕ
 keyed group len = group * 4294967296 + len

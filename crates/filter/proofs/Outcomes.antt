@@ -18,7 +18,7 @@ use Rattle.filter.specs.Input.{Input, quadCount}
 use Rattle.filter.specs.Marks.{keptTo, keptOf}
 use Rattle.filter.specs.Call.{entryGate, Outcome, outcomeBy, Allowed}
 use Rattle.filter.specs.Call.Allowed.{refused as by-rows, judged as by-marks}
-use Rattle.filter.specs.Steps.{Sound, Judged}
+use Rattle.filter.specs.inner.Steps.{Sound, Judged}
 use Rattle.filter.proofs.Kept.{kept-count, kept-same}
 
 -- the marks have room in a workspace that is long enough

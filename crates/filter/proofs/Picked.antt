@@ -1,6 +1,5 @@
 -- The quads that come out are quads that came in, in their order: a rising choice of places, which has every place whose mark is 0
--- (`kept-picked`). So
--- every quad kept is one of those given (`kept-from`), and the promises of merging hold of it. Assumes nothing.
+-- (`kept-picked`). So every quad kept is one of those given (`kept-from`), and the promises of merging hold of it. Assumes nothing.
 use mathlib.Core.Path.{_≡_, refl, sym, ap, _∙_, subst}
 use mathlib.Core.Bool.{cond}
 use mathlib.Core.List.{List, [], _∷_, _++_, List·Memᴰ, List·Memᴰ·append-cases, List·Memᴰ·eq-of-singleton, List·Memᴰ·not-nil}
@@ -14,14 +13,17 @@ use lib.Dec.{ltb}
 use lib.ListN.{length, getD, length-append, List·getD-append}
 use lib.Seq.{getD-append-seam}
 use Rattle.words.proofs.Rank.{rec-on}
+use Rattle.words.proofs.Listing.{each-more}
 use Rattle.quads.specs.declared.Quad.{Quad}
-use Rattle.quads.specs.declared.Pairing.the-variants.{Four}
-use Rattle.quads.specs.Call.{wordsOf}
+use Rattle.refusal.specs.declared.Gate.the-variants.{Open}
+use Rattle.quads.specs.Call.{wordsOf, gateOf}
 use Rattle.quads.specs.Merge as quads
-use Rattle.quads.specs.Order.{CornerOrder, Exist}
+use Rattle.quads.specs.inner.Merging as quads-inner
+use Rattle.quads.specs.inner.Ordering.{Exist}
+use Rattle.quads.specs.Arranged.{Arranged}
 use Rattle.quads.proofs.Apart.{Different, all-different}
 use Rattle.quads.proofs.Made.{length-words}
-use Rattle.quads.proofs.Ordered.{Single, all-ordered}
+use Rattle.quads.proofs.Ordered.{open-ordered}
 use Rattle.filter.specs.Input.{Input, quadCount}
 use Rattle.filter.specs.Marks.{quadAt, keptTo, keptOf}
 use Rattle.filter.specs.Picked.{Picked}
@@ -84,13 +86,8 @@ module _ (quads : List ℕ) (mark : ℕ → ℕ) (n : ℕ) (out : List Quad) (p 
   unfolding more
   longer = length-append out (quadAt quads n ∷ [])
 
-  -- a place of the longer list is one of the shorter, or the last
   each : (P : ℕ → Type 0) → ((k : ℕ) → k < length out → P k) → P (length out) → (k : ℕ) → k < length more → P k
-  each P before last k h = go (decLt k (length out))
-    where
-      go : Dec (k < length out) → P k
-      go (yes l) = before k l
-      go (no l) = let e : length out ≡ k = omega (arith, longer) in subst P e last
+  each = each-more (length out) (length more) longer
 
   picked-yes : mark n ≡ 0 → Picked quads mark (n + 1) more
   unfolding more
@@ -153,12 +150,13 @@ unfolding keptOf
 kept-from i marks qs given = kept-have (i .quads) (λ (q : ℕ). getD marks q 0) (λ (q : Quad). List·Memᴰ q qs) (quadCount i)
     (λ k h. let l : k < length qs = omega (arith, h, ap length given, length-words qs) in rw given (words-in qs k l))
 
--- ---- the promises of merging
+-- ---- the promises of merging, of quads that it made
 
-module _ (m : quads.Input) (sound : quads.Sound m) (i : Input) (marks : List ℕ) (given : i .quads ≡ wordsOf (quads.mergedOf m)) where
-  pub kept-different : (q : Quad) → List·Memᴰ q (keptOf i marks) → Different q × Exist (length (m .xs)) q
-  kept-different q k = all-different m sound q (kept-from i marks (quads.mergedOf m) given q k)
+pub kept-different : (m : quads.Input) → quads-inner.Sound m → (i : Input) (marks : List ℕ) → i .quads ≡ wordsOf (quads.mergedOf m)
+    → (q : Quad) → List·Memᴰ q (keptOf i marks) → Different q × Exist (length (m .xs)) q
+kept-different m sound i marks given q k = all-different m sound q (kept-from i marks (quads.mergedOf m) given q k)
 
-  pub kept-ordered : Single (m .xs) (m .ys) → (q : Quad) → List·Memᴰ q (keptOf i marks)
-      → (t : ℕ) × (four : Quad) × (quads.pairedAt (m .mesh) t ≡ Four four) × CornerOrder (m .xs) (m .ys) four q
-  kept-ordered single q k = all-ordered m sound single q (kept-from i marks (quads.mergedOf m) given q k)
+-- merging's rows are enough
+pub kept-ordered : (m : quads.Input) → gateOf m ≡ Open → (i : Input) (marks : List ℕ) → i .quads ≡ wordsOf (quads.mergedOf m)
+    → (q : Quad) → List·Memᴰ q (keptOf i marks) → Arranged m q
+kept-ordered m through i marks given q k = open-ordered m through q (kept-from i marks (quads.mergedOf m) given q k)

@@ -8,9 +8,9 @@ use lib.ListN.{getD}
 use Rattle.mesh.specs.Cells.{namesTwice}
 use Rattle.mesh.proofs.Differ.{corners-differ}
 use Rattle.cells.specs.Cells.{cell}
-use Rattle.cells.specs.Table as table
+use Rattle.cells.specs.inner.Table as table
 use Rattle.filter.specs.Input.{Input, quadCount}
-use Rattle.filter.specs.Steps.{Sound}
+use Rattle.filter.specs.inner.Steps.{Sound}
 
 module _ (quads : List ℕ) (q : ℕ) (clear : namesTwice 4 quads q ≡ false) where
   differ : (j k : ℕ) → j < k → k < 4 → getD quads (4 * q + j) 0 ≡ getD quads (4 * q + k) 0 → ⊥

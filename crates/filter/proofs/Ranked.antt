@@ -15,10 +15,10 @@ use lib.ListN.{length, getD, length-append, List·getD-append}
 use lib.Seq.{getD-append-add}
 use Rattle.measure.proofs.LengthWords.{IsLength, length-is, word-back, word-one, word-order}
 use Rattle.words.specs.Sorting.{one, equal}
-use Rattle.filter.specs.Input.{Input, sideLength, sideOf, lengthBetween}
+use Rattle.filter.specs.Input.{Input, sideLength, lengthOfSide, lengthBetween}
 use Rattle.filter.specs.Median.{less, upTo, Median}
 use Rattle.filter.specs.Size.{sidesTo}
-use Rattle.filter.specs.Steps.{sideWord, lowerIn, MiddleWord}
+use Rattle.filter.specs.inner.Steps.{sideWord, lowerIn, MiddleWord}
 
 -- ---- lists of lengths
 
@@ -155,7 +155,7 @@ held-right l m x (k, h, e) = (length l + k, omega (arith, length-append l m), ge
 -- ---- the sides of a group are lengths
 
 pub side-is : (i : Input) (q k : ℕ) → IsLength (sideLength i q k)
-unfolding sideOf lengthBetween
+unfolding lengthOfSide lengthBetween
 side-is i q k = length-is _ _
 
 module _ (i : Input) (group : ℕ → ℕ) (g : ℕ) where

@@ -4,12 +4,12 @@ use mathlib.Core.List.{List}
 use Prim.Native.Nat.{ℕ, _+_, _*_, _/_, _≤_, _<_}
 use native.Mathlib.Omega.{arith}
 use lib.ListN.{length, getD}
-use Rattle.words.specs.Regions.{two}
+use Rattle.words.specs.inner.Regions.{two}
 use Rattle.words.proofs.Regions.{kept-refl}
 use Rattle.words.proofs.Moving.{two-cases, two-kept}
-use Rattle.cells.specs.Table.{groupsAt, tableAt}
-use Rattle.filter.specs.Layout.{lengthsAt, mediansAt}
-use Rattle.filter.specs.Steps.{Recorded}
+use Rattle.cells.specs.inner.Table.{groupsAt, tableAt}
+use Rattle.filter.specs.inner.Layout.{lengthsAt, mediansAt}
+use Rattle.filter.specs.inner.Steps.{Recorded}
 
 pub recorded-none : (n : ℕ) (xs : List ℕ) → Recorded n 0 xs xs
 recorded-none n xs = record { kept = kept-refl xs (tableAt n) (8 * n); lengths = λ e h. absurd (omega arith); groups = λ e h. absurd (omega arith) }

@@ -19,9 +19,9 @@ use Rattle.cells.specs.Cells.{cell, Touch}
 use Rattle.cells.specs.Cells.Touch.{alike, opposite}
 use Rattle.cells.specs.Groups.{Groups}
 use Rattle.cells.specs.Groups.Linked.{same}
-use Rattle.filter.specs.Input.{lengthBetween, sideOf}
+use Rattle.filter.specs.Input.{lengthBetween, lengthOfSide}
 use Rattle.filter.specs.Topology.{incidence, illegal, crowded}
-use Rattle.filter.specs.Opposing.{greaterOf, lesserOf, raised, ratioOf, uneven, skewed}
+use Rattle.filter.specs.Opposing.{greaterOf, lesserOf, raised, sideRatio, uneven, skewed}
 use Rattle.filter.specs.Median.{less, upTo, Median}
 use Rattle.filter.specs.Size.{hasLeast, hasGreatest, isSkipped, offSide, offSize, sidesTo}
 use Rattle.filter.specs.Marks.{markBy, left, Joined}
@@ -58,7 +58,7 @@ apart-back (alike a b) = no-touch (b .at) (a .at) (b .starts ∙ sym (a .starts)
 apart-back (opposite a b) = no-touch (b .at) ((a .at + 1) % 4) (b .starts ∙ sym (a .ends))
 
 dropped : left row 1 ≡ false
-unfolding ofBits round add sub mul div lt le sigOf expOf units unitsOf greatest reaches rootPattern rootOf orZero lengthOf lengthBetween sideOf one equal incidence illegal crowded greaterOf lesserOf raised ratioOf uneven skewed left
+unfolding ofBits round add sub mul div lt le sigOf expOf units unitsOf greatest reaches rootPattern rootOf orZero lengthOf lengthBetween lengthOfSide one equal incidence illegal crowded greaterOf lesserOf raised sideRatio uneven skewed left
 dropped = refl
 
 groups : Groups (Joined row) 3 own
@@ -82,11 +82,11 @@ medianOf : ℕ → Float
 medianOf g = cond (eqb g 0) (fraction 10 1) (fraction 100 1)
 
 ten : Median (sidesTo row own 0 3) (medianOf 0)
-unfolding ofBits round add sub mul lt sigOf expOf units unitsOf greatest reaches rootPattern rootOf orZero lengthOf lengthBetween sideOf one less upTo sidesTo own medianOf
+unfolding ofBits round add sub mul lt sigOf expOf units unitsOf greatest reaches rootPattern rootOf orZero lengthOf lengthBetween lengthOfSide one less upTo sidesTo own medianOf
 ten = record { at = 0; at-lt = lit< tt; is = refl; before = lit≤ tt; after = lit< tt }
 
 hundred : Median (sidesTo row own 2 3) (medianOf 2)
-unfolding ofBits round add sub mul lt sigOf expOf units unitsOf greatest reaches rootPattern rootOf orZero lengthOf lengthBetween sideOf one less upTo sidesTo own medianOf
+unfolding ofBits round add sub mul lt sigOf expOf units unitsOf greatest reaches rootPattern rootOf orZero lengthOf lengthBetween lengthOfSide one less upTo sidesTo own medianOf
 hundred = record { at = 0; at-lt = lit< tt; is = refl; before = lit≤ tt; after = lit< tt }
 
 medians : (q : ℕ) → q < 3 → left row q ≡ true → Median (sidesTo row own (own q) 3) (medianOf (own q))
@@ -97,5 +97,5 @@ medians (suc (suc zero)) h l = hundred
 medians (suc (suc (suc q))) h l = absurd (omega arith)
 
 pub marks : Row
-unfolding ofBits round add sub mul div lt eq le listing one equal sigOf expOf units unitsOf greatest reaches rootPattern rootOf orZero lengthOf some lengthBetween sideOf incidence illegal crowded greaterOf lesserOf raised ratioOf uneven skewed hasLeast hasGreatest isSkipped offSide offSize markBy own medianOf
+unfolding ofBits round add sub mul div lt eq le listing one equal sigOf expOf units unitsOf greatest reaches rootPattern rootOf orZero lengthOf some lengthBetween lengthOfSide incidence illegal crowded greaterOf lesserOf raised sideRatio uneven skewed hasLeast hasGreatest isSkipped offSide offSize markBy own medianOf
 marks = sized refl own groups medianOf medians

@@ -6,12 +6,12 @@ use Prim.Native.Nat.{ℕ, _+_, _*_, _-_, _/_, _≤_, _<_}
 use native.Mathlib.Decide.{decLt}
 use native.Mathlib.Omega.{arith}
 use lib.ListN.{length, getD, set}
-use Rattle.words.specs.Order.{wordOf}
-use Rattle.words.specs.Regions.{Kept}
+use Rattle.words.specs.inner.Order.{wordOf}
+use Rattle.words.specs.inner.Regions.{Kept}
 use Rattle.words.proofs.Regions.{set-cases, kept-refl, kept-set}
-use Rattle.cells.specs.Table.{tableAt}
-use Rattle.filter.specs.Layout.{mediansAt}
-use Rattle.filter.specs.Steps.{Run, Middle, Rising, Centred}
+use Rattle.cells.specs.inner.Table.{tableAt}
+use Rattle.filter.specs.inner.Layout.{mediansAt}
+use Rattle.filter.specs.inner.Steps.{Run, Middle, Rising, Centred}
 
 pub run-ends : (group : ℕ → ℕ) (m s e : ℕ) → ((j k : ℕ) → j ≤ k → k < m → group j ≤ group k) → s < e → e ≤ m → ((k : ℕ) → k < s → group k < group s) → ((k : ℕ) → s ≤ k → k < e → group k ≡ group s) → (e < m → group e ≡ group s → ⊥) → Run group m s e
 run-ends group m s e rises some within before alike stop = record {

@@ -21,9 +21,9 @@ use Rattle.mesh.specs.Cells.{notBelow, cornersRow, some, namesTwice, twiceRow}
 use Rattle.cells.specs.Groups.{Groups}
 use Rattle.cells.specs.Groups.Linked.{same}
 use Rattle.quads.specs.Call.{wordsOf}
-use Rattle.filter.specs.Input.{lengthBetween, sideOf}
+use Rattle.filter.specs.Input.{lengthBetween, lengthOfSide}
 use Rattle.filter.specs.Topology.{incidence, illegal, crowded}
-use Rattle.filter.specs.Opposing.{greaterOf, lesserOf, raised, ratioOf, uneven, skewed}
+use Rattle.filter.specs.Opposing.{greaterOf, lesserOf, raised, sideRatio, uneven, skewed}
 use Rattle.filter.specs.Median.{less, upTo, Median}
 use Rattle.filter.specs.Size.{hasLeast, hasGreatest, isSkipped, offSide, offSize, sidesTo}
 use Rattle.filter.specs.Marks.{markBy, left, Joined, Marked, keptTo, keptOf}
@@ -36,7 +36,7 @@ alone : Groups (Joined square) 1 (λ (q : ℕ). q)
 alone = record { linked = λ x h. same; together = λ x y e. omega (arith, e .from, e .to); lowest = λ x h. le-refl x }
 
 ten : Median (sidesTo square (λ (q : ℕ). q) 0 1) (fraction 10 1)
-unfolding ofBits round add sub mul lt sigOf expOf units unitsOf greatest reaches rootPattern rootOf orZero lengthOf lengthBetween sideOf one less upTo sidesTo
+unfolding ofBits round add sub mul lt sigOf expOf units unitsOf greatest reaches rootPattern rootOf orZero lengthOf lengthBetween lengthOfSide one less upTo sidesTo
 ten = record { at = 0; at-lt = lit< tt; is = refl; before = lit≤ tt; after = lit< tt }
 
 median : (q : ℕ) → q < 1 → left square q ≡ true → Median (sidesTo square (λ (q : ℕ). q) q 1) (fraction 10 1)
@@ -44,7 +44,7 @@ median q h l = let z : 0 ≡ q = omega arith in subst (λ (g : ℕ). Median (sid
 
 -- the square has the mark 0: kept
 pub marked : Marked square (0 ∷ [])
-unfolding ofBits round add sub mul div lt eq le listing one equal sigOf expOf units unitsOf greatest reaches rootPattern rootOf orZero lengthOf some lengthBetween sideOf incidence illegal crowded greaterOf lesserOf raised ratioOf uneven skewed hasLeast hasGreatest isSkipped offSide offSize markBy
+unfolding ofBits round add sub mul div lt eq le listing one equal sigOf expOf units unitsOf greatest reaches rootPattern rootOf orZero lengthOf some lengthBetween lengthOfSide incidence illegal crowded greaterOf lesserOf raised sideRatio uneven skewed hasLeast hasGreatest isSkipped offSide offSize markBy
 marked = sized refl (λ (q : ℕ). q) alone (λ (g : ℕ). fraction 10 1) median
 
 pub single : Single

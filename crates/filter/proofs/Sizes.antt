@@ -6,12 +6,12 @@ use Prim.Native.Nat.{ℕ, _+_, _<_}
 use native.Mathlib.Omega.{arith}
 use lib.Ieee as Ieee
 use lib.Ieee.{binary32}
-use Rattle.words.specs.Regions.{Filled}
+use Rattle.words.specs.inner.Regions.{Filled}
 use Rattle.words.proofs.Regions.{kept-past}
 use Rattle.mesh.specs.Cells.{some}
 use Rattle.filter.specs.declared.FilterParams.{FilterParams}
 use Rattle.filter.specs.Size.{offSize}
-use Rattle.filter.specs.Steps.{medianIn, sizeMark}
+use Rattle.filter.specs.inner.Steps.{medianIn, sizeMark}
 use Rattle.filter.proofs.Skew.{length-later}
 
 median-later : {xs ys : List ℕ} {f : ℕ → ℕ} (n q : ℕ) → Filled xs ys 0 q q f → q < n → medianIn ys n q ≡ medianIn xs n q

@@ -5,11 +5,11 @@ use Prim.Native.Nat.{ℕ, _+_, _*_, _<_}
 use native.Mathlib.Omega.{arith}
 use lib.Ieee as Ieee
 use lib.Ieee.{Float, binary32}
-use Rattle.words.specs.Regions.{Filled}
+use Rattle.words.specs.inner.Regions.{Filled}
 use Rattle.words.proofs.Regions.{kept-past}
-use Rattle.filter.specs.Layout.{lengthsAt}
+use Rattle.filter.specs.inner.Layout.{lengthsAt}
 use Rattle.filter.specs.Opposing.{uneven}
-use Rattle.filter.specs.Steps.{lengthIn, skewMark}
+use Rattle.filter.specs.inner.Steps.{lengthIn, skewMark}
 
 pub length-later : {xs ys : List ℕ} {f : ℕ → ℕ} (n q k : ℕ) → Filled xs ys 0 q q f → q < n → lengthIn ys n q k ≡ lengthIn xs n q k
 unfolding lengthIn

@@ -5,7 +5,7 @@ use mathlib.Core.List.{List}
 use Prim.Native.Nat.{ℕ, _+_, _*_, _≤_, _<_}
 use native.Mathlib.Omega.{arith}
 use lib.ListN.{length, getD, set}
-use Rattle.words.specs.Regions.{Filled}
+use Rattle.words.specs.inner.Regions.{Filled}
 use Rattle.words.specs.Sorting.{equal}
 use Rattle.words.proofs.Regions.{kept-refl, filled-at}
 use Rattle.words.proofs.Rank.{equal-zero, equal-yes, equal-no, equal-le}

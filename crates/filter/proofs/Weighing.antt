@@ -5,18 +5,18 @@ use mathlib.Core.List.{List}
 use Prim.Native.Nat.{ℕ, _+_, _*_, _-_, _/_, _≤_, _<_}
 use native.Mathlib.Omega.{arith}
 use lib.ListN.{length, getD}
-use Rattle.words.specs.Regions.{Outside}
-use Rattle.words.specs.Order.{wordOf, Ordered, groupedOf}
+use Rattle.words.specs.inner.Regions.{Outside}
+use Rattle.words.specs.inner.Order.{wordOf, Ordered, groupedOf}
 use Rattle.words.proofs.Cuts.{ascends}
 use Rattle.cells.proofs.Groups.{groups-same}
 use Rattle.mesh.specs.Lists.{mostQuads}
-use Rattle.cells.specs.Table.{groupsAt, tableAt}
-use Rattle.cells.specs.Sides.{Grouped}
-use Rattle.filter.specs.Layout.{spareAt, lengthsAt, mediansAt}
-use Rattle.filter.specs.Steps.{Recorded, Rising, Centred, Middle, MiddleWord, Weighed}
+use Rattle.cells.specs.inner.Table.{groupsAt, tableAt}
+use Rattle.cells.specs.inner.Sides.{Grouped}
+use Rattle.filter.specs.inner.Layout.{orderingAt, lengthsAt, mediansAt}
+use Rattle.filter.specs.inner.Steps.{Recorded, Rising, Centred, Middle, MiddleWord, Weighed}
 use Rattle.filter.proofs.Middle.{keyed, middle-word}
 
-module _ (quads : List ℕ) (n : ℕ) (xs gs rs os : List ℕ) (few : n ≤ mostQuads) (grouped : Grouped 4 quads n xs gs) (recorded : Recorded n (4 * n) gs rs) (ordered : Ordered (groupedOf rs (tableAt n)) rs os (tableAt n) (spareAt n) (4 * n)) (fits : (k : ℕ) → getD rs k 0 < 4294967296) where
+module _ (quads : List ℕ) (n : ℕ) (xs gs rs os : List ℕ) (few : n ≤ mostQuads) (grouped : Grouped 4 quads n xs gs) (recorded : Recorded n (4 * n) gs rs) (ordered : Ordered (groupedOf rs (tableAt n)) rs os (tableAt n) (orderingAt n) (4 * n)) (fits : (k : ℕ) → getD rs k 0 < 4294967296) where
   -- record e is of the group of its quad, which is below n
   group-small : (e : ℕ) → e < 4 * n → getD gs (groupsAt n + e / 4) 0 < n
   group-small e h = omega (arith, grouped .groups .lowest (e / 4) (omega arith))

@@ -6,12 +6,12 @@ use Rattle.words.specs.Sorting.{one, equal}
 use Rattle.mesh.specs.Cells.{some}
 use Rattle.filter.specs.Median.{less, upTo}
 use Rattle.filter.specs.Topology.{incidence, illegal, crowded}
-use Rattle.filter.specs.Opposing.{greaterOf, lesserOf, raised, ratioOf, uneven}
+use Rattle.filter.specs.Opposing.{greaterOf, lesserOf, raised, sideRatio, uneven}
 use Rattle.filter.specs.Size.{hasLeast, hasGreatest, isSkipped, offSide, offSize}
 use Rattle.filter.specs.Worked.{Worked}
 
 pub worked : Worked
-unfolding ofBits round mul div lt eq le one equal some less upTo incidence illegal crowded greaterOf lesserOf raised ratioOf uneven hasLeast hasGreatest isSkipped offSide offSize
+unfolding ofBits round mul div lt eq le one equal some less upTo incidence illegal crowded greaterOf lesserOf raised sideRatio uneven hasLeast hasGreatest isSkipped offSide offSize
 worked =
     record {
       two-illegal = (refl, refl);

@@ -8,6 +8,7 @@ use lib.ListN.{length, drop, replicate}
 use Rattle.refusal.specs.declared.Gate.{Gate}
 use Rattle.refusal.specs.declared.Gate.the-variants.{Open, Shut}
 use Rattle.refusal.specs.declared.Refusal.{Refusal}
+use Rattle.refusal.specs.InNumbers.{InNumbers, gives, refuses}
 use Rattle.refusal.specs.Rows.{_then_}
 use Rattle.measure.specs.Parameter.{parameterRow}
 use Rattle.mesh.specs.Lists.{pairedRow, wholeRow, limitRow, mostCorners, mostQuads, workRow, quadWords}
@@ -39,6 +40,11 @@ gateOf i = lengthsGate (length (i .xs)) (length (i .ys)) (length (i .quads)) the
 -- row 8
 unfoldable pub entryGate : Input → ℕ → Gate
 entryGate i words = gateOf i then workRow words (quadWords (quadCount i) (length (i .xs)))
+
+-- the answer in 01's numbers: how many quads there are
+abbrev pub filteredTold : Filtered → InNumbers ℕ
+filteredTold (Done count) = gives count
+filteredTold (Refused why) = refuses 0 why
 
 -- the answer, and the lists that could change
 pub record Outcome : Type 0 where

@@ -4,6 +4,7 @@ use Prim.Native.Nat.{ℕ, _+_, _/_}
 use lib.Ieee as Ieee
 use lib.Ieee.{Float, nan, binary32}
 use lib.ListN.{length, getD}
+use denote.Ref.{RefT, now}
 use Rattle.measure.specs.Length.{lengthOf}
 use Rattle.cells.specs.Cells.{cell}
 use Rattle.filter.specs.declared.FilterParams.{FilterParams}
@@ -14,6 +15,10 @@ pub record Input : Type 0 where
   pub quads : List ℕ
   pub params : FilterParams
 
+-- what lent lists hold, in the order in which the call takes them
+abbrev pub given : (x y : RefT (List Float)) (quads : RefT (List ℕ)) → FilterParams → Input
+given x y quads params = record { xs = now x; ys = now y; quads = now quads; params = params }
+
 abbrev pub quadCount : Input → ℕ
 quadCount i = length (i .quads) / 4
 
@@ -23,8 +28,8 @@ lengthBetween xs ys a b =
     lengthOf (Ieee.sub binary32 (getD xs b nan) (getD xs a nan)) (Ieee.sub binary32 (getD ys b nan) (getD ys a nan))
 
 -- side k of quad q, from corner k to the next one round
-unfoldable pub sideOf : List Float → List Float → List ℕ → ℕ → ℕ → Float
-sideOf xs ys quads q k = lengthBetween xs ys (cell 4 quads q k) (cell 4 quads q (k + 1))
+unfoldable pub lengthOfSide : List Float → List Float → List ℕ → ℕ → ℕ → Float
+lengthOfSide xs ys quads q k = lengthBetween xs ys (cell 4 quads q k) (cell 4 quads q (k + 1))
 
 abbrev pub sideLength : Input → ℕ → ℕ → Float
-sideLength i = sideOf (i .xs) (i .ys) (i .quads)
+sideLength i = lengthOfSide (i .xs) (i .ys) (i .quads)

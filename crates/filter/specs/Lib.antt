@@ -5,9 +5,9 @@ pub mod Median
 pub mod Size
 pub mod Marks
 pub mod Call
-pub mod Layout
-pub mod Steps
 pub mod Worked
 pub mod Picked
 pub mod Single
 pub mod Row
+pub mod Rooted
+pub mod inner

@@ -19,12 +19,12 @@ lesserOf a b = cond (Ieee.lt a b) a b
 unfoldable pub raised : Float → Float
 raised m = cond (Ieee.lt m tiny) tiny m
 
-unfoldable pub ratioOf : Float → Float → Float
-ratioOf a b = Ieee.div binary32 (greaterOf a b) (raised (lesserOf a b))
+unfoldable pub sideRatio : Float → Float → Float
+sideRatio a b = Ieee.div binary32 (greaterOf a b) (raised (lesserOf a b))
 
 -- by the lengths of a quad's four sides in order
 unfoldable pub uneven : Float → (ℕ → Float) → Bool
-uneven limit side = not (Ieee.le (greaterOf (ratioOf (side 0) (side 2)) (ratioOf (side 1) (side 3))) limit)
+uneven limit side = not (Ieee.le (greaterOf (sideRatio (side 0) (side 2)) (sideRatio (side 1) (side 3))) limit)
 
 unfoldable pub skewed : Input → ℕ → Bool
 skewed i q = uneven (i .params .ratio) (sideLength i q)

@@ -9,7 +9,7 @@ use lib.ListN.{getD}
 use Rattle.measure.specs.Float.{bits, fraction}
 use Rattle.filter.specs.declared.FilterParams.{FilterParams}
 use Rattle.filter.specs.Median.{Median}
-use Rattle.filter.specs.Opposing.{ratioOf, uneven}
+use Rattle.filter.specs.Opposing.{sideRatio, uneven}
 use Rattle.filter.specs.Size.{isSkipped, offSize}
 use Rattle.filter.specs.Topology.{crowded}
 
@@ -41,9 +41,9 @@ pub record Worked : Type 0 where
   pub two-illegal : (crowded fan 0 ≡ true) × (crowded fan 4 ≡ true)
   pub one-illegal : (crowded five 0 ≡ false) × (crowded fan 5 ≡ false)
   -- a lesser of 0, and the float below 1e-6, count as 1e-6 (2 over it is 2,000,000); the greater stays
-  pub ratio-over-zero : ratioOf (fraction 2 1) (bits 0) ≡ bits 0x49F42400
-  pub ratio-over-small : ratioOf (bits 0x358637BC) (fraction 2 1) ≡ bits 0x49F42400
-  pub ratio-of-zeros : ratioOf (bits 0) (bits 0) ≡ bits 0
+  pub ratio-over-zero : sideRatio (fraction 2 1) (bits 0) ≡ bits 0x49F42400
+  pub ratio-over-small : sideRatio (bits 0x358637BC) (fraction 2 1) ≡ bits 0x49F42400
+  pub ratio-of-zeros : sideRatio (bits 0) (bits 0) ≡ bits 0
   -- 3 over 2 against a limit of 3/2, and of the float below; the worse ratio counts, whichever pair has it
   pub at-limit : uneven (fraction 3 2) (sides (fraction 3 1) (fraction 1 1) (fraction 2 1) (fraction 1 1)) ≡ false
   pub past-limit : uneven (bits 0x3FBFFFFF) (sides (fraction 3 1) (fraction 1 1) (fraction 2 1) (fraction 1 1)) ≡ true

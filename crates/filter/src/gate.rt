@@ -3,6 +3,7 @@ ghost use mathlib.Core.Path.{_≡_};
 ghost use Prim.Native.Nat.{_/_, _≤_};
 ghost use lib.ListN.{length};
 ghost use Rattle.mesh.specs.Lists.{mostCorners, mostQuads};
+ghost use Rattle.filter.specs.Input.{given};
 ghost use Rattle.filter.specs.Call.{lengthsGate, paramsGate, valuesGate, gateOf, entryGate};
 use crate::FilterParams;
 use measure::inner::parameter_row;
@@ -49,7 +50,7 @@ fn values_gate(x: &[f32], y: &[f32], quads: &[u32]) -> Gate
 
 // Rows 1 to 6.
 fn judge(x: &[f32], y: &[f32], quads: &[u32], params: FilterParams) -> Gate
-    ensures { λ r. ⌜ r ≡ gateOf (record { xs = now (x .entry); ys = now (y .entry); quads = now (quads .entry); params = params }) ⌝ }
+    ensures { λ r. ⌜ r ≡ gateOf (given (x .entry) (y .entry) (quads .entry) params) ⌝ }
 {
     let lengths = lengths_gate(x.len(), y.len(), quads.len());
     match lengths {
@@ -60,7 +61,7 @@ fn judge(x: &[f32], y: &[f32], quads: &[u32], params: FilterParams) -> Gate
 
 // All rows but the ninth.
 pub(crate) fn entry(x: &[f32], y: &[f32], quads: &[u32], params: FilterParams, words: usize) -> Gate
-    ensures { λ r. ⌜ r ≡ entryGate (record { xs = now (x .entry); ys = now (y .entry); quads = now (quads .entry); params = params }) words ⌝ }
+    ensures { λ r. ⌜ r ≡ entryGate (given (x .entry) (y .entry) (quads .entry) params) words ⌝ }
 {
     let gate = judge(x, y, quads, params);
     match gate {

@@ -6,8 +6,9 @@ ghost use lib.ListN.{length, getD, drop};
 ghost use Rattle.words.specs.Sorting.{equal};
 ghost use Rattle.quads.specs.Call.{wordsOf};
 ghost use Rattle.mesh.specs.Lists.{quadWords};
+ghost use Rattle.filter.specs.Input.{given};
 ghost use Rattle.filter.specs.Marks.{quadAt, keptTo};
-ghost use Rattle.filter.specs.Steps.{Sound, Judged};
+ghost use Rattle.filter.specs.inner.Steps.{Sound, Judged};
 use crate::FilterParams;
 use crate::lengths::write_lengths;
 use crate::opposing::mark_skewed;
@@ -19,8 +20,8 @@ use quads::inner::store;
 // One word per quad at the front of the workspace: 0 kept, 1, 2 or 3 dropped by that rule. `filter_quads` and a frame show what is asked
 // by their rows.
 pub fn mark_quads(x: &[f32], y: &[f32], quads: &[u32], params: FilterParams, work: &mut [u32])
-    requires { ⌜ Sound (record { xs = now x; ys = now y; quads = now quads; params = params }) × (quadWords (length (now quads) / 4) (length (now x)) ≤ length (now work)) ⌝ }
-    ensures { λ _. ⌜ Judged (record { xs = now (x .entry); ys = now (y .entry); quads = now (quads .entry); params = params }) (now (work .entry)) (now (work .exit)) ⌝ }
+    requires { ⌜ Sound (given x y quads params) × (quadWords (length (now quads) / 4) (length (now x)) ≤ length (now work)) ⌝ }
+    ensures { λ _. ⌜ Judged (given (x .entry) (y .entry) (quads .entry) params) (now (work .entry)) (now (work .exit)) ⌝ }
 {
     mark_crowded(quads, work, x.len());
     write_lengths(x, y, quads, work);

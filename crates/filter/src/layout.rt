@@ -1,10 +1,10 @@
-// Where the filters keep what in the workspace, as specs/Layout says: how many words for each quad stand before it.
+// Where the filters keep what in the workspace, as specs/inner/Layout says: how many words for each quad stand before it.
 
 // The table of records that the third rule orders.
 pub(crate) const TABLE: usize = 2;
 
 // The room for the table's ordering.
-pub(crate) const SPARE: usize = 10;
+pub(crate) const ORDERING: usize = 10;
 
 // The lengths of all sides.
 pub(crate) const LENGTHS: usize = 18;

@@ -1,5 +1,6 @@
 // The three filters of quads: crowded corners, uneven opposing sides, and cells of the wrong size in their group.
 // `filter_quads` is the call; `inner` has the stage without its checks.
+ghost use Rattle.filter.specs.Input.{given};
 ghost use Rattle.filter.specs.Call.{Allowed};
 use refusal::Gate;
 use refusal::Refusal;
@@ -35,7 +36,8 @@ pub fn filter_quads(
     work: &mut [u32],
     kept: &mut [u32],
 ) -> Filtered
-    ensures { λ r. ⌜ Allowed (record { xs = now (x .entry); ys = now (y .entry); quads = now (quads .entry); params = params }) (now (work .entry)) (now (kept .entry)) (record { answer = r; work = now (work .exit); kept = now (kept .exit) }) ⌝ }
+    ensures { λ r. ⌜ Allowed (given (x .entry) (y .entry) (quads .entry) params)
+        (now (work .entry)) (now (kept .entry)) (record { answer = r; work = now (work .exit); kept = now (kept .exit) }) ⌝ }
 {
     let gate = gate::entry(x, y, quads, params, work.len());
     if let Gate::Shut(why) = gate {

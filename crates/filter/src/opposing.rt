@@ -4,10 +4,10 @@ ghost use Prim.Native.Nat.{_+_, _*_, _≤_, _<_};
 ghost use lib.Ieee as Ieee;
 ghost use lib.Ieee.{binary32};
 ghost use lib.ListN.{length};
-ghost use Rattle.words.specs.Regions.{Filled};
-ghost use Rattle.filter.specs.Layout.{lengthsAt};
-ghost use Rattle.filter.specs.Opposing.{greaterOf, lesserOf, raised, ratioOf, uneven};
-ghost use Rattle.filter.specs.Steps.{lengthIn, skewMark};
+ghost use Rattle.words.specs.inner.Regions.{Filled};
+ghost use Rattle.filter.specs.inner.Layout.{lengthsAt};
+ghost use Rattle.filter.specs.Opposing.{greaterOf, lesserOf, raised, sideRatio, uneven};
+ghost use Rattle.filter.specs.inner.Steps.{lengthIn, skewMark};
 use crate::lengths::length_at;
 
 // A lesser side below this is taken for it.
@@ -39,7 +39,7 @@ fn over(most: f32, least: f32) -> f32
 }
 
 fn ratio(a: f32, b: f32) -> f32
-    ensures { λ r. ⌜ r ≡ ratioOf a b ⌝ }
+    ensures { λ r. ⌜ r ≡ sideRatio a b ⌝ }
 {
     over(greater(a, b), lesser(a, b))
 }

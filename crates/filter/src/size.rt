@@ -2,17 +2,17 @@
 ghost use mathlib.Core.Path.{_≡_};
 ghost use Prim.Native.Nat.{ℕ, _+_, _-_, _*_, _/_, _≤_, _<_};
 ghost use lib.ListN.{length, getD};
-ghost use Rattle.words.specs.Order.{wordOf};
-ghost use Rattle.words.specs.Regions.{Filled};
-ghost use Rattle.cells.specs.Table.{Sound, groupsAt, tableAt};
+ghost use Rattle.words.specs.inner.Order.{wordOf};
+ghost use Rattle.words.specs.inner.Regions.{Filled};
+ghost use Rattle.cells.specs.inner.Table.{Sound, groupsAt, tableAt};
 ghost use Rattle.mesh.specs.Lists.{mostQuads};
-ghost use Rattle.filter.specs.Layout.{spareAt, lengthsAt, mediansAt};
+ghost use Rattle.filter.specs.inner.Layout.{orderingAt, lengthsAt, mediansAt};
 ghost use Rattle.filter.specs.Size.{isSkipped, offSide, offSize};
-ghost use Rattle.filter.specs.Steps.{lengthIn, sizeMark, Recorded, Rising, Run, Centred, Weighed, Sized};
+ghost use Rattle.filter.specs.inner.Steps.{lengthIn, sizeMark, Recorded, Rising, Run, Centred, Weighed, Sized};
 use crate::FilterParams;
 use crate::layout::LENGTHS;
 use crate::layout::MEDIANS;
-use crate::layout::SPARE;
+use crate::layout::ORDERING;
 use crate::layout::TABLE;
 use crate::lengths::length_at;
 use cells::inner::groups;
@@ -38,7 +38,7 @@ fn write_records(work: &mut [u32], n: usize)
 
 // Where the run of one group that begins at record s ends, of n quads' records in order.
 fn run_end(work: &[u32], n: usize, s: usize) -> usize
-    requires { ⌜ (s < 4 * n) × (spareAt n ≤ length (now work)) ⌝ }
+    requires { ⌜ (s < 4 * n) × (orderingAt n ≤ length (now work)) ⌝ }
     requires { ⌜ Rising n (now work) ⌝ }
     requires { ⌜ ((k : ℕ) → k < s → wordOf (now work) (tableAt n) 1 k < wordOf (now work) (tableAt n) 1 s) ⌝ }
     ensures { λ r. ⌜ Run (wordOf (now (work .entry)) (tableAt n) 1) (4 * n) s r ⌝ }
@@ -156,7 +156,7 @@ fn write_groups(quads: &[u32], work: &mut [u32], n: usize)
 {
     groups(quads, 4, n, work);
     write_records(work, n);
-    order_in_groups(work, TABLE * n, SPARE * n, 4 * n);
+    order_in_groups(work, TABLE * n, ORDERING * n, 4 * n);
     write_medians(work, n);
 }
 

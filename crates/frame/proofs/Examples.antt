@@ -21,7 +21,8 @@ use Rattle.quads.proofs.Worked as quads
 use Rattle.cells.specs.Kind.{Pair, Fits}
 use Rattle.cells.specs.Quads as cells
 use Rattle.cells.specs.Twin.{Reading, known-from, reading, label}
-use Rattle.cells.specs.Holes.{holes, places, total, width, height, held}
+use Rattle.cells.specs.Sums.{total}
+use Rattle.cells.specs.Holes.{holes, places, width, height, held}
 use Rattle.cells.proofs.Twin.{Solves, solve-is}
 use Rattle.cells.proofs.Twin.Solves.{solved}
 use Rattle.cells.proofs.Check.{groups-are}
@@ -60,7 +61,7 @@ abbrev labelling : List ℕ → labels.Input
 labelling quads = record { quads = quads; corners = 4; params = program-frame .params .labels }
 
 labelled : labels.Answer (labelling (0 ∷ 1 ∷ 2 ∷ 3 ∷ [])) (printed ∷ [])
-unfolding one equal
+unfolding total
 labelled =
     let quads : List ℕ = 0 ∷ 1 ∷ 2 ∷ 3 ∷ [] in
     let number : ℕ → ℕ = λ q. q in

@@ -8,10 +8,10 @@ use lib.ListN.{length, take, drop, length-append, length-drop}
 use Rattle.refusal.specs.declared.Gate.the-variants.{Open}
 use Rattle.mesh.specs.Lists.{quadWords, frameWords}
 use Rattle.filter.specs.Input as filters
-use Rattle.filter.specs.Steps.{Sound}
+use Rattle.filter.specs.inner.Steps.{Sound}
 use Rattle.frame.specs.Stages.{Input, filtering}
 use Rattle.frame.specs.Call.{judgeOf}
-use Rattle.frame.specs.Steps.{Made, Sifted}
+use Rattle.frame.specs.inner.Steps.{Made, Sifted}
 use Rattle.frame.proofs.Fronts.{front-in}
 use Rattle.frame.proofs.Sound.{merging-sound, made-few, filtering-sound}
 

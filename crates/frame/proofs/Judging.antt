@@ -7,11 +7,11 @@ use native.Mathlib.Omega.{arith}
 use lib.ListN.{length, take}
 use Rattle.refusal.specs.declared.Gate.the-variants.{Open}
 use Rattle.mesh.specs.Lists.{mostQuads}
-use Rattle.laying.specs.Layout.{Given}
-use Rattle.fates.specs.Computed.{Computed}
+use Rattle.laying.specs.inner.Layout.{Given}
+use Rattle.fates.specs.inner.Computed.{Computed}
 use Rattle.frame.specs.Stages.{Input, filtering}
 use Rattle.frame.specs.Call.{entryGate}
-use Rattle.frame.specs.Steps.{Sifted, Fated}
+use Rattle.frame.specs.inner.Steps.{Sifted, Fated}
 use Rattle.frame.proofs.Sound.{entry-open}
 use Rattle.frame.proofs.Labelling.{kept-few, kept-given, kept-room}
 

@@ -15,7 +15,7 @@ use Rattle.filter.specs.Input.{quadCount}
 use Rattle.filter.specs.Marks.{keptOf}
 use Rattle.filter.proofs.Kept.{kept-le}
 use Rattle.filter.proofs.Picked.{kept-different}
-use Rattle.laying.specs.Layout.{Given}
+use Rattle.laying.specs.inner.Layout.{Given}
 use Rattle.frame.specs.Stages.{Input, merging, filtering}
 use Rattle.frame.specs.Call.{judgeOf}
 use Rattle.frame.proofs.Written.{words-exist, words-distinct}

@@ -5,10 +5,12 @@ pub mod Making
 pub mod Sifting
 pub mod Handing
 pub mod Labelling
+pub mod Promises
 pub mod Judging
 pub mod Outcomes
 pub mod Through
 pub mod Determined
+pub mod Early
 pub mod Demand
 pub mod Examples
 pub mod Single

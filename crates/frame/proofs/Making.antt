@@ -9,10 +9,11 @@ use Rattle.mesh.specs.Lists.{mostQuads}
 use Rattle.classify.specs.Classes.{classesOf}
 use Rattle.quads.specs.Call.{wordsOf}
 use Rattle.quads.specs.Merge as merge
+use Rattle.quads.specs.inner.Merging as merge-inner
 use Rattle.quads.specs.Merge.{mergedOf}
 use Rattle.frame.specs.Stages.{Input, classing, merging}
 use Rattle.frame.specs.Call.{judgeOf}
-use Rattle.frame.specs.Steps.{Made}
+use Rattle.frame.specs.inner.Steps.{Made}
 use Rattle.frame.proofs.Sound.{classing-sound, merging-sound, made-few}
 use Rattle.frame.proofs.Fronts.{front-put}
 
@@ -21,9 +22,9 @@ abbrev by : Input → List ℕ → merge.Input
 by i list = record { xs = i .xs; ys = i .ys; mesh = record { triangles = i .triangles; twins = i .twins; classes = list } }
 
 module _ (i : Input) (list : List ℕ) (classed : list ≡ classesOf (classing i)) where
-  pub merge-asks : judgeOf i ≡ Open → (words : ℕ) → 4 * mostQuads ≤ words → merge.Sound (by i list) × (4 * length (mergedOf (by i list)) ≤ words)
+  pub merge-asks : judgeOf i ≡ Open → (words : ℕ) → 4 * mostQuads ≤ words → merge-inner.Sound (by i list) × (4 * length (mergedOf (by i list)) ≤ words)
   merge-asks through words room =
-      subst (λ (l : List ℕ). merge.Sound (by i l) × (4 * length (mergedOf (by i l)) ≤ words)) (sym classed)
+      subst (λ (l : List ℕ). merge-inner.Sound (by i l) × (4 * length (mergedOf (by i l)) ≤ words)) (sym classed)
       (merging-sound i through, omega (arith, made-few i through, classing-sound i through .edges))
 
   pub made : (n : ℕ) (before after : List ℕ) → n ≡ length (mergedOf (by i list)) → after ≡ wordsOf (mergedOf (by i list)) ++ drop (4 * length (mergedOf (by i list))) before → Made i list n after

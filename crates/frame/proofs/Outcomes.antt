@@ -13,18 +13,18 @@ use Rattle.quads.specs.declared.Quad.{Quad}
 use Rattle.quads.specs.Call.{wordsOf}
 use Rattle.quads.proofs.Made.{length-words}
 use Rattle.filter.specs.Marks.{keptOf}
-use Rattle.fates.specs.Computed.{Computed}
+use Rattle.fates.specs.inner.Computed.{Computed}
 use Rattle.walk.specs.declared.Labelled.the-variants.{Refused}
 use Rattle.walk.specs.Input.{quadCount}
 use Rattle.walk.specs.Call.{Outcome, outcomeBy}
-use Rattle.walk.specs.Emitted.{outTo}
-use Rattle.walk.specs.Emitting.{Writable}
+use Rattle.walk.specs.inner.Emitted.{outTo}
+use Rattle.walk.specs.inner.Emitting.{Writable}
 use Rattle.walk.proofs.Rooms.{roomRows, outcome-by-length}
 use Rattle.walk.proofs.Yielded.{components-are, writable}
 use Rattle.frame.specs.Stages.{Input, filtering, labelling, Answer}
 use Rattle.frame.specs.Call.{judgeOf, entryGate, Allowed}
 use Rattle.frame.specs.Call.Allowed.{refused, labelled}
-use Rattle.frame.specs.Steps.{Fated}
+use Rattle.frame.specs.inner.Steps.{Fated}
 use Rattle.frame.proofs.Sound.{entry-open, classing-sound}
 use Rattle.frame.proofs.Labelling.{kept-few, kept-room}
 

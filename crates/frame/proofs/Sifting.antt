@@ -8,9 +8,9 @@ use lib.Seq.{length-take-le, getD-take}
 use Rattle.quads.specs.Call.{wordsOf}
 use Rattle.filter.specs.Input.{Input, quadCount}
 use Rattle.filter.specs.Marks.{keptTo, keptOf}
-use Rattle.filter.specs.Steps.{Judged}
+use Rattle.filter.specs.inner.Steps.{Judged}
 use Rattle.filter.proofs.Kept.{kept-same}
-use Rattle.frame.specs.Steps.{Sifted}
+use Rattle.frame.specs.inner.Steps.{Sifted}
 use Rattle.frame.proofs.Fronts.{front-put}
 
 -- the filters read the front

@@ -3,13 +3,13 @@ use mathlib.Core.Path.{refl}
 use lib.Ieee.{ofBits, round, le, isNan}
 use Rattle.refusal.specs.First.{firstOf}
 use Rattle.refusal.specs.Rows.{refuseFirst}
-use Rattle.words.specs.Sorting.{one}
 use Rattle.measure.specs.Float.{within}
 use Rattle.mesh.specs.HalfEdge.{nextOf}
 use Rattle.mesh.specs.Positions.{misplaced, positionsRow}
 use Rattle.mesh.specs.Cells.{notBelow, cornersRow, some, namesTwice, twiceRow}
 use Rattle.mesh.specs.Twins.{runsBack, twinOffends, twinFault, twinsRow}
-use Rattle.cells.specs.Holes.{holes, places, total, width, height, held}
+use Rattle.cells.specs.Sums.{total}
+use Rattle.cells.specs.Holes.{holes, places, width, height, held}
 use Rattle.walk.specs.Call.{entryWords, allEntries, componentWords}
 use Rattle.frame.specs.Call.{lengthsGate, paramsGate, valuesGate, judgeOf, entryGate}
 use Rattle.frame.specs.Call.Allowed.{refused, labelled}
@@ -17,7 +17,7 @@ use Rattle.frame.specs.Single.{Single}
 use Rattle.frame.proofs.Examples.{of-the-frame}
 
 pub single : Single
-unfolding ofBits round le isNan firstOf refuseFirst one within nextOf misplaced positionsRow notBelow cornersRow some namesTwice twiceRow runsBack twinOffends twinFault twinsRow holes places total width height held entryWords allEntries componentWords lengthsGate paramsGate valuesGate judgeOf entryGate
+unfolding ofBits round le isNan firstOf refuseFirst within nextOf misplaced positionsRow notBelow cornersRow some namesTwice twiceRow runsBack twinOffends twinFault twinsRow holes places total width height held entryWords allEntries componentWords lengthsGate paramsGate valuesGate judgeOf entryGate
 single =
     record {
       exact = labelled refl _ of-the-frame;

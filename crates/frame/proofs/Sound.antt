@@ -16,15 +16,15 @@ use Rattle.mesh.specs.Cells.{cornersRow, twiceRow}
 use Rattle.mesh.specs.Twins.{twinOffends, twinsRow}
 use Rattle.mesh.proofs.Open.{work-open, positions-open, corners-open, twice-open, twins-open, twin-sound}
 use Rattle.classify.specs.Call.{lengthsGate as classLengths}
-use Rattle.classify.specs.Classes as classes
+use Rattle.classify.specs.inner.Triangle as classes-inner
 use Rattle.classify.specs.Classes.{classesOf}
 use Rattle.classify.proofs.Sound as classes-sound
-use Rattle.quads.specs.Merge as merge
+use Rattle.quads.specs.inner.Merging as merge-inner
 use Rattle.quads.specs.Merge.{mergedOf}
 use Rattle.quads.proofs.Apart.{all-different}
 use Rattle.quads.proofs.Made.{length-words}
 use Rattle.quads.proofs.Sixth.{at-most-a-sixth}
-use Rattle.filter.specs.Steps as filters
+use Rattle.filter.specs.inner.Steps as filters
 use Rattle.frame.specs.Stages.{Input, classing, merging, filtering}
 use Rattle.frame.specs.Call.{lengthsGate, paramsGate, valuesGate, judgeOf, entryGate}
 use Rattle.frame.proofs.Written.{words-exist, words-clear}
@@ -68,7 +68,7 @@ module _ (i : Input) (through : judgeOf i ≡ Open) where
 
   -- ---- classes
 
-  pub classing-sound : classes.Sound (classing i)
+  pub classing-sound : classes-inner.Sound (classing i)
   classing-sound =
       let (l, v) = rows in
       record {
@@ -85,7 +85,7 @@ module _ (i : Input) (through : judgeOf i ≡ Open) where
 
   -- ---- merging
 
-  pub merging-sound : merge.Sound (merging i)
+  pub merging-sound : merge-inner.Sound (merging i)
   unfolding classesOf
   merging-sound =
       let (l, v) = rows in

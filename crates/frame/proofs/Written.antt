@@ -1,19 +1,19 @@
 -- Quads written as words: where each quad of a list has four different corners that exist, so has each record of its words. Assumes nothing.
 use mathlib.Core.Path.{_≡_, refl, sym, ap, _∙_}
-use mathlib.Core.Bool.{Bool, false}
+use mathlib.Core.Bool.{false}
 use mathlib.Core.List.{List, [], _∷_, List·Memᴰ}
 use mathlib.Core.List.List·Memᴰ.{List·Memᴰ·head, List·Memᴰ·tail}
 use Prim.Native.Nat.{ℕ, zero, suc, _+_, _*_, _/_, _%_, _<_}
 use native.Mathlib.Omega.{arith}
 use borrow.Author.Tests.{ne-eqb}
 use lib.ListN.{length, getD}
-use Rattle.words.proofs.Rank.{rec-on}
-use Rattle.mesh.specs.Cells.{some, namesTwice}
-use Rattle.mesh.proofs.Some.{some-none, some-more}
+use Rattle.mesh.specs.Cells.{namesTwice}
+use Rattle.mesh.proofs.Some.{some-clear}
 use Rattle.cells.specs.Cells.{cell}
 use Rattle.quads.specs.declared.Quad.{Quad}
 use Rattle.quads.specs.Call.{wordsOf}
-use Rattle.quads.specs.Order.{cornerAt, Exist}
+use Rattle.quads.specs.Order.{cornerAt}
+use Rattle.quads.specs.inner.Ordering.{Exist}
 use Rattle.quads.proofs.Apart.{Different}
 use Rattle.quads.proofs.Made.{length-words}
 use Rattle.quads.proofs.Sorted.{corner-in}
@@ -46,12 +46,9 @@ words-at (q ∷ qs) (suc k) h = after (words-at qs k (omega arith))
 
 -- ---- a record of four different corners names none twice
 
-some-clear : (p : ℕ → Bool) (n : ℕ) → ((i : ℕ) → i < n → p i ≡ false) → some n p ≡ false
-some-clear p = rec-on (λ n. ((i : ℕ) → i < n → p i ≡ false) → some n p ≡ false) (λ h. some-none p) (λ n ih h. some-more n p (ih (λ i l. h i (omega arith))) (h n (omega arith)))
-
 clear-if-distinct : (cells : List ℕ) (r : ℕ) → ((i j : ℕ) → cell 4 cells r i ≡ cell 4 cells r j → i % 4 ≡ j % 4) → namesTwice 4 cells r ≡ false
 unfolding namesTwice
-clear-if-distinct cells r distinct = some-clear _ 4 (λ i h. some-clear _ i (λ j l. ne-eqb (getD cells (r * 4 + j) 0) (getD cells (r * 4 + i) 0) (apart i j h l)))
+clear-if-distinct cells r distinct = some-clear 4 _ (λ i h. some-clear i _ (λ j l. ne-eqb (getD cells (r * 4 + j) 0) (getD cells (r * 4 + i) 0) (apart i j h l)))
   where
     apart : (i j : ℕ) → i < 4 → j < i → getD cells (r * 4 + j) 0 ≡ getD cells (r * 4 + i) 0 → ⊥
     apart i j h l e =

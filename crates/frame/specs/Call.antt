@@ -16,7 +16,7 @@ use Rattle.mesh.specs.Cells.{cornersRow, twiceRow}
 use Rattle.mesh.specs.Twins.{twinsRow}
 use Rattle.cells.specs.Listed.{Entry}
 use Rattle.walk.specs.declared.Labelled.the-variants.{Refused}
-use Rattle.walk.specs.Call.{allEntries, roomRow, entriesRow, Outcome, outcomeBy}
+use Rattle.walk.specs.Call.{Outcome, outcomeIn}
 use Rattle.frame.specs.declared.Params.{Params}
 use Rattle.frame.specs.Stages.{Input, Answer}
 
@@ -49,4 +49,4 @@ entryGate i words = judgeOf i then workRow words (frameWords (length (i .triangl
 pub data Allowed (i : Input) (work components entries : List ℕ) : Outcome → Type 0 where
   refused : (why : Refusal) → entryGate i (length work) ≡ Shut why → Allowed i work components entries (record { answer = Refused why; work = work; components = components; entries = entries })
   labelled : entryGate i (length work) ≡ Open → (out : List (List Entry)) → Answer i out
-      → Allowed i work components entries (outcomeBy (roomRow (length components) (length out) then entriesRow (length entries) (length (allEntries out))) out work components entries)
+      → Allowed i work components entries (outcomeIn out work components entries)

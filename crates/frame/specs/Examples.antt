@@ -83,8 +83,8 @@ pub record Examples : Type 0 where
   pub corners-4-and-5 : Says (one-group (0 ∷ 1 ∷ 2 ∷ 3 ∷ 1 ∷ 4 ∷ 5 ∷ 2 ∷ []) 1 1 (whole (entry 0 0 0 ∷ entry 0 1 3 ∷ entry 1 0 1 ∷ entry 1 1 2 ∷ entry 2 0 4 ∷ entry 2 1 5 ∷ []) ∷ []))
   -- quads 0 1 2 3 and 1 2 5 4 run side 1-2 alike: one group, four corners listed
   pub side-run-alike : Says (one-group (0 ∷ 1 ∷ 2 ∷ 3 ∷ 1 ∷ 2 ∷ 5 ∷ 4 ∷ []) 1 1 (whole (square 0 1 2 3) ∷ []))
-  -- 0 1 2 3, 0 3 4 5, 0 5 6 1: no component
-  pub no-component : Says (one-group (0 ∷ 1 ∷ 2 ∷ 3 ∷ 0 ∷ 3 ∷ 4 ∷ 5 ∷ 0 ∷ 5 ∷ 6 ∷ 1 ∷ []) 1 1 [])
+  -- 0 1 2 3, 0 3 4 5, 0 5 6 1: no component, even where no quads and no corners are asked for
+  pub no-component : Says (one-group (0 ∷ 1 ∷ 2 ∷ 3 ∷ 0 ∷ 3 ∷ 4 ∷ 5 ∷ 0 ∷ 5 ∷ 6 ∷ 1 ∷ []) 0 0 [])
   -- 0 1 2 3, 0 3 4 5, 0 5 6 7, 0 7 8 9: corners 1 and 9 claim one place, neither listed; 8 entries, corner 6 at (0,0), corner 0 at (1,1), one
   -- hole. Least corners 9 drops it, 8 keeps it; least quads 5 drops it
   pub corners-1-and-9 : (L : ℕ → Pair) × (Fits quads four-round 0 L × (L 1 ≡ L 9))

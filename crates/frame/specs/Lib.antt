@@ -1,5 +1,5 @@
 pub mod Stages
 pub mod Call
-pub mod Steps
 pub mod Examples
 pub mod Single
+pub mod inner

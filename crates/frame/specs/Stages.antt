@@ -3,6 +3,7 @@ use mathlib.Core.List.{List}
 use Prim.Native.Nat.{ℕ}
 use lib.Ieee.{Float}
 use lib.ListN.{length}
+use denote.Ref.{RefT, now}
 use Rattle.classify.specs.Classes as classes
 use Rattle.classify.specs.Classes.{classesOf}
 use Rattle.quads.specs.declared.Quad.{Quad}
@@ -25,6 +26,11 @@ pub record Input : Type 0 where
   pub triangles : List ℕ
   pub twins : List ℕ
   pub params : Params
+
+-- what lent lists hold, in the order in which the call takes them
+abbrev pub given : (x y angles : RefT (List Float)) (marks : RefT (List ℕ)) (spreads : RefT (List Float)) (triangles twins : RefT (List ℕ)) → Params → Input
+given x y angles marks spreads triangles twins params =
+    record { xs = now x; ys = now y; angles = now angles; marks = now marks; spreads = now spreads; triangles = now triangles; twins = now twins; params = params }
 
 module _ (i : Input) where
   -- the classes are of the half-edges

@@ -1,12 +1,13 @@
 // The rows of a frame apart from its work, row 8 apart from the rows before it, and the work up to the fates and their counts apart from
-// writing: a caller of several frames asks row 8 once and the others for each, and has the counts of each before it writes.
+// writing.
 ghost use mathlib.Core.Path.{_≡_};
 ghost use Prim.Native.Nat.{_≤_};
 ghost use lib.ListN.{length};
 ghost use Rattle.refusal.specs.declared.Gate.the-variants.{Open};
 ghost use Rattle.mesh.specs.Lists.{mostCorners, mostHalfEdges, workRow, frameWords};
+ghost use Rattle.frame.specs.Stages.{given};
 ghost use Rattle.frame.specs.Call.{judgeOf, entryGate};
-ghost use Rattle.frame.specs.Steps.{Fated, CountedFates};
+ghost use Rattle.frame.specs.inner.Steps.{Fated, CountedFates};
 use crate::Params;
 use crate::gate::lengths_gate;
 use crate::gate::params_gate;
@@ -39,7 +40,7 @@ pub fn judge(
     twins: &[u32],
     params: Params,
 ) -> Gate
-    ensures { λ r. ⌜ r ≡ judgeOf (record { xs = now (x .entry); ys = now (y .entry); angles = now (angles .entry); marks = now (marks .entry); spreads = now (spreads .entry); triangles = now (triangles .entry); twins = now (twins .entry); params = params }) ⌝ }
+    ensures { λ r. ⌜ r ≡ judgeOf (given (x .entry) (y .entry) (angles .entry) (marks .entry) (spreads .entry) (triangles .entry) (twins .entry) params) ⌝ }
 {
     let lengths = lengths_gate(
         x.len(),
@@ -77,8 +78,8 @@ pub fn compute_frame(
     params: Params,
     work: &mut [u32],
 ) -> FrameCounts
-    requires { ⌜ entryGate (record { xs = now x; ys = now y; angles = now angles; marks = now marks; spreads = now spreads; triangles = now triangles; twins = now twins; params = params }) (length (now work)) ≡ Open ⌝ }
-    ensures { λ r. ⌜ Fated (record { xs = now (x .entry); ys = now (y .entry); angles = now (angles .entry); marks = now (marks .entry); spreads = now (spreads .entry); triangles = now (triangles .entry); twins = now (twins .entry); params = params }) (r .quads) (now (work .entry)) (now (work .exit)) ⌝ }
+    requires { ⌜ entryGate (given x y angles marks spreads triangles twins params) (length (now work)) ≡ Open ⌝ }
+    ensures { λ r. ⌜ Fated (given (x .entry) (y .entry) (angles .entry) (marks .entry) (spreads .entry) (triangles .entry) (twins .entry) params) (r .quads) (now (work .entry)) (now (work .exit)) ⌝ }
     ensures { λ r. ⌜ CountedFates (length (now (x .entry))) r (now (work .exit)) ⌝ }
 {
     let labels = params.labels;

@@ -1,5 +1,6 @@
 // A whole frame: classes, quads, the three filters, labelling, in one call.
 // `label_frame` is the call; `inner` has its rows and its work apart.
+ghost use Rattle.frame.specs.Stages.{given};
 ghost use Rattle.frame.specs.Call.{Allowed};
 use classify::EdgeParams;
 use fates::LabelParams;
@@ -37,7 +38,9 @@ pub fn label_frame(
     components: &mut [u32],
     entries: &mut [u32],
 ) -> Labelled
-    ensures { λ r. ⌜ Allowed (record { xs = now (x .entry); ys = now (y .entry); angles = now (angles .entry); marks = now (marks .entry); spreads = now (spreads .entry); triangles = now (triangles .entry); twins = now (twins .entry); params = params }) (now (work .entry)) (now (components .entry)) (now (entries .entry)) (record { answer = r; work = now (work .exit); components = now (components .exit); entries = now (entries .exit) }) ⌝ }
+    ensures { λ r. ⌜ Allowed (given (x .entry) (y .entry) (angles .entry) (marks .entry) (spreads .entry) (triangles .entry) (twins .entry) params)
+        (now (work .entry)) (now (components .entry)) (now (entries .entry))
+        (record { answer = r; work = now (work .exit); components = now (components .exit); entries = now (entries .exit) }) ⌝ }
 {
     let gate = judge(x, y, angles, marks, spreads, triangles, twins, params);
     if let Gate::Shut(why) = gate {

@@ -5,10 +5,10 @@ ghost use Prim.Native.Nat.{_*_, _≤_};
 ghost use lib.ListN.{length, take};
 ghost use Rattle.refusal.specs.declared.Gate.the-variants.{Open};
 ghost use Rattle.mesh.specs.Lists.{mostQuads, quadWords};
-ghost use Rattle.filter.specs.Steps.{Sound};
-ghost use Rattle.frame.specs.Stages.{filtering};
+ghost use Rattle.filter.specs.inner.Steps.{Sound};
+ghost use Rattle.frame.specs.Stages.{filtering, given};
 ghost use Rattle.frame.specs.Call.{judgeOf, entryGate};
-ghost use Rattle.frame.specs.Steps.{Made, Sifted};
+ghost use Rattle.frame.specs.inner.Steps.{Made, Sifted};
 use crate::Params;
 use classify::inner::classify_triangles;
 use filter::FilterParams;
@@ -30,9 +30,9 @@ fn make_quads(
     classes: &mut [u32],
     quads: &mut [u32],
 ) -> usize
-    requires { ⌜ judgeOf (record { xs = now x; ys = now y; angles = now angles; marks = now marks; spreads = now spreads; triangles = now triangles; twins = now twins; params = params }) ≡ Open ⌝ }
+    requires { ⌜ judgeOf (given x y angles marks spreads triangles twins params) ≡ Open ⌝ }
     requires { ⌜ (length (now classes) ≡ length (now triangles)) × (4 * mostQuads ≤ length (now quads)) ⌝ }
-    ensures { λ r. ⌜ Made (record { xs = now (x .entry); ys = now (y .entry); angles = now (angles .entry); marks = now (marks .entry); spreads = now (spreads .entry); triangles = now (triangles .entry); twins = now (twins .entry); params = params }) (now (classes .exit)) r (now (quads .exit)) ⌝ }
+    ensures { λ r. ⌜ Made (given (x .entry) (y .entry) (angles .entry) (marks .entry) (spreads .entry) (triangles .entry) (twins .entry) params) (now (classes .exit)) r (now (quads .exit)) ⌝ }
 {
     let edges = params.edges;
     classify_triangles(x, y, angles, marks, spreads, triangles, edges, classes);
@@ -69,8 +69,8 @@ pub(crate) fn quads_of(
     work: &mut [u32],
     quads: &mut [u32],
 ) -> usize
-    requires { ⌜ (entryGate (record { xs = now x; ys = now y; angles = now angles; marks = now marks; spreads = now spreads; triangles = now triangles; twins = now twins; params = params }) (length (now work)) ≡ Open) × (4 * mostQuads ≤ length (now quads)) ⌝ }
-    ensures { λ r. ⌜ Sifted (filtering (record { xs = now (x .entry); ys = now (y .entry); angles = now (angles .entry); marks = now (marks .entry); spreads = now (spreads .entry); triangles = now (triangles .entry); twins = now (twins .entry); params = params })) r (now (quads .exit)) × (length (now (work .exit)) ≡ length (now (work .entry))) ⌝ }
+    requires { ⌜ (entryGate (given x y angles marks spreads triangles twins params) (length (now work)) ≡ Open) × (4 * mostQuads ≤ length (now quads)) ⌝ }
+    ensures { λ r. ⌜ Sifted (filtering (given (x .entry) (y .entry) (angles .entry) (marks .entry) (spreads .entry) (triangles .entry) (twins .entry) params)) r (now (quads .exit)) × (length (now (work .exit)) ≡ length (now (work .entry))) ⌝ }
 {
     let h = triangles.len();
     let filters = params.filters;

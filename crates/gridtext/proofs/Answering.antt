@@ -18,13 +18,13 @@ use Rattle.frame.specs.Stages.{Input}
 use Rattle.gridtext.specs.declared.FrameRead.{FrameRead}
 use Rattle.gridtext.specs.declared.Parsed.{Parsed}
 use Rattle.gridtext.specs.Text.{Frame, Within, Reads, Bad}
-use Rattle.gridtext.specs.Read.{Parses}
+use Rattle.gridtext.specs.inner.Read.{Parses}
 use Rattle.gridtext.specs.Lists.{inputOf}
 use Rattle.gridtext.specs.Answer.{refusedText}
 use Rattle.gridtext.specs.Gridlabel.{Answers, mostText, Answered}
-use Rattle.gridtext.specs.Held.{Printable, PrintsHeld, mostBytes}
-use Rattle.gridtext.specs.Printed.{Printed}
-use Rattle.gridtext.specs.Unpacked.{mostComponents, mostEntries, workWords, Standing, Labels}
+use Rattle.gridtext.specs.inner.Held.{Printable, PrintsHeld, mostBytes}
+use Rattle.gridtext.specs.inner.Printed.{Printed}
+use Rattle.gridtext.specs.inner.Unpacked.{mostComponents, mostEntries, workWords, Standing, Labels}
 use Rattle.gridtext.proofs.NeverShort.{small-answer, never-short}
 
 -- ---- the call

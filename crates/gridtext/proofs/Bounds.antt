@@ -7,7 +7,7 @@ use lib.ListN.{length, getD, length-append}
 use Rattle.refusal.specs.declared.Refusal.{Refusal}
 use Rattle.refusal.specs.Table.{numberOf, placeOf}
 use Rattle.cells.specs.Listed.{Entry}
-use Rattle.cells.specs.Holes.{total}
+use Rattle.cells.specs.Sums.{total}
 use Rattle.walk.specs.Call.{allEntries}
 use Rattle.walk.specs.Read.{entryAt, beforeOf, countOf, holesOf, componentAt}
 use Rattle.walk.proofs.ReadBack.{entries-in-all}
@@ -15,8 +15,8 @@ use Rattle.digits.specs.Digits.{decimalOf}
 use Rattle.digits.proofs.Places.{places, fewest, word-places, decimal-places}
 use Rattle.gridtext.specs.Lines.{spaced, IsWord}
 use Rattle.gridtext.specs.Answer.{numbersLine, badText, refusedText, entryLine, entryLines, componentsText}
-use Rattle.gridtext.specs.Printed.{Room, lastFields}
-use Rattle.gridtext.specs.Held.{badBytes, refusedBytes, Holds, Printable, Readable, mostBytes}
+use Rattle.gridtext.specs.inner.Printed.{Room, lastFields}
+use Rattle.gridtext.specs.inner.Held.{badBytes, refusedBytes, Holds, Printable, Readable, mostBytes}
 use Rattle.gridtext.proofs.Joining.{joined, entryPiece, entries-joined, componentPiece}
 use Rattle.gridtext.proofs.Reading.{readable, componentWord, componentFields, component-parts, countWord, answer-parts}
 

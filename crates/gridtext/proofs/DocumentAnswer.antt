@@ -7,21 +7,20 @@ use lib.Ieee.{ofBits, round, le, isNan}
 use Rattle.refusal.specs.declared.Gate.the-variants.{Open}
 use Rattle.refusal.specs.First.{firstOf}
 use Rattle.refusal.specs.Rows.{refuseFirst}
-use Rattle.words.specs.Sorting.{one}
 use Rattle.measure.specs.Float.{within}
 use Rattle.mesh.specs.HalfEdge.{nextOf}
 use Rattle.mesh.specs.Positions.{misplaced, positionsRow}
 use Rattle.mesh.specs.Cells.{notBelow, cornersRow, some, namesTwice, twiceRow}
 use Rattle.mesh.specs.Twins.{runsBack, twinOffends, twinFault, twinsRow}
-use Rattle.cells.specs.Holes.{holes, places, total, width, height, held}
+use Rattle.cells.specs.Sums.{total}
+use Rattle.cells.specs.Holes.{holes, places, width, height, held}
 use Rattle.digits.specs.Digits.{placesIn, decimalOf}
 use Rattle.frame.specs.Call.{lengthsGate, paramsGate, valuesGate, judgeOf}
 use Rattle.frame.specs.Examples.{program-frame, printed}
 use Rattle.frame.proofs.Examples.{of-the-frame}
 use Rattle.gridtext.specs.Lines.{spaced}
-use Rattle.gridtext.specs.Rows.{twinWord, wordOf}
+use Rattle.gridtext.specs.Lists.{twinWord, wordOf, markOf, paramsOf, inputOf}
 use Rattle.gridtext.specs.Text.{Frame}
-use Rattle.gridtext.specs.Lists.{markOf, paramsOf, inputOf}
 use Rattle.gridtext.specs.Answer.{numbersLine, entryLine, entryLines, componentLines, componentsText}
 use Rattle.gridtext.specs.Gridlabel.{Answers}
 use Rattle.gridtext.proofs.Example.{lastFed, cornerAt, firstTriangle, secondTriangle, frameWith, document-text}
@@ -34,7 +33,7 @@ unfolding inputOf paramsOf markOf wordOf twinWord frameWith cornerAt firstTriang
 lists-are = refl
 
 let-through : judgeOf program-frame ≡ Open
-unfolding ofBits round le isNan firstOf refuseFirst one within nextOf misplaced positionsRow notBelow cornersRow some namesTwice twiceRow runsBack twinOffends twinFault twinsRow lengthsGate paramsGate valuesGate judgeOf
+unfolding ofBits round le isNan firstOf refuseFirst within nextOf misplaced positionsRow notBelow cornersRow some namesTwice twiceRow runsBack twinOffends twinFault twinsRow lengthsGate paramsGate valuesGate judgeOf
 let-through = refl
 
 -- "components 1", "component 0 4 0", "0 0 0", "0 1 3", "1 0 1", "1 1 2"
@@ -44,7 +43,7 @@ documentAnswer =
     ++ (48 ∷ 32 ∷ 48 ∷ 32 ∷ 48 ∷ 10 ∷ []) ++ (48 ∷ 32 ∷ 49 ∷ 32 ∷ 51 ∷ 10 ∷ []) ++ (49 ∷ 32 ∷ 48 ∷ 32 ∷ 49 ∷ 10 ∷ []) ++ (49 ∷ 32 ∷ 49 ∷ 32 ∷ 50 ∷ 10 ∷ [])
 
 text-is : componentsText (printed ∷ []) ≡ documentAnswer
-unfolding documentAnswer componentsText componentLines entryLines entryLine numbersLine spaced decimalOf placesIn holes places total width height held one
+unfolding documentAnswer componentsText componentLines entryLines entryLine numbersLine spaced decimalOf placesIn holes places total width height held
 text-is = refl
 
 pub document-answer : Answers (lastFed (10 ∷ [])) documentAnswer

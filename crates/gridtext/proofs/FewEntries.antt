@@ -22,7 +22,7 @@ use Rattle.cells.proofs.NoMore.{no-more}
 use Rattle.cells.proofs.Squares.{quad-laws}
 use Rattle.cells.proofs.Unique.{reached-linked}
 use Rattle.walk.specs.Call.{allEntries}
-use Rattle.walk.proofs.ByPlace.{enough-lone}
+use Rattle.walk.proofs.ByPlace.{exactly-lone}
 use Rattle.walk.proofs.Counting.{all-snoc}
 
 -- of two numbers with the key v, the higher has more of them below it
@@ -67,7 +67,7 @@ module _ (cells : List ℕ) (g : Grouping) (all : g .n ≡ length cells / 4) (gr
 
     component-few : {es : List Entry} → Component quads cells g s es → length es ≤ 4 * equal (g .number) (g .n) s
     component-few {es} c =
-        let a = enough-lone cells s (c .L) es (c .listed) (length es) (omega arith) in
+        let a = exactly-lone cells s (c .L) es (c .listed) in
         no-more (length es) (4 * equal (g .number) (g .n) s) (λ k b. sent (a .each k b .reached)) (λ k b. sent-small (a .each k b .reached))
         (λ j k bj bk e. a .apart j k bj bk (sent-apart (a .each j bj .reached) (a .each k bk .reached) e))
 

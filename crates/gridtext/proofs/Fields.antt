@@ -10,18 +10,18 @@ use Rattle.mesh.specs.HalfEdge.{noTwin}
 use Rattle.digits.specs.declared.End.{End}
 use Rattle.digits.specs.declared.Taken.{Taken}
 use Rattle.digits.specs.Digits.{hexOf, decimalOf}
-use Rattle.digits.specs.Run.{endOf}
-use Rattle.digits.specs.Taken.{Takes, Stands}
+use Rattle.digits.specs.Taken.{endByte, Takes, Stands}
 use Rattle.digits.proofs.Forms.{Marked, one-hex, one-decimal, hex-first, decimal-first, no-digit}
 use Rattle.gridtext.specs.declared.inner.row.Few.{Few}
 use Rattle.gridtext.specs.declared.inner.row.Found.{Found}
 use Rattle.gridtext.specs.declared.inner.row.Kind.{Kind}
 use Rattle.gridtext.specs.Lines.{Field, fieldOf}
-use Rattle.gridtext.specs.Rows.{formOf, Allowed, spreadWords, twinWord, wordOf, wordsOf, listOf, foundOf, PairAt, FieldStands, FieldAt}
+use Rattle.gridtext.specs.inner.Rows.{formOf, Allowed, spreadWords, wordsOf, listOf, foundOf, PairAt, FieldStands, FieldAt}
+use Rattle.gridtext.specs.Lists.{twinWord, wordOf}
 
 -- ---- one field before an end
 
-marked : (k : Kind) (end : End) → Marked (λ (v : ℕ). formOf k (Field.word v)) (endOf end)
+marked : (k : Kind) (end : End) → Marked (λ (v : ℕ). formOf k (Field.word v)) (endByte end)
 unfolding formOf fieldOf
 marked Kind.Hex end = one-hex end
 marked Kind.Decimal end = one-decimal end
@@ -42,7 +42,7 @@ minus-first Kind.Decimal rest = refl
 minus-first Kind.Spread rest = refl
 minus-first Kind.Twin rest = refl
 
-pub one-field : (k : Kind) (end : End) (f g : Field) (r s : List ℕ) → Allowed k f → Allowed k g → formOf k f ++ (endOf end ∷ r) ≡ formOf k g ++ (endOf end ∷ s) → (f ≡ g) × (r ≡ s)
+pub one-field : (k : Kind) (end : End) (f g : Field) (r s : List ℕ) → Allowed k f → Allowed k g → formOf k f ++ (endByte end ∷ r) ≡ formOf k g ++ (endByte end ∷ s) → (f ≡ g) × (r ≡ s)
 one-field k end (Field.word v) (Field.word w) r s (Allowed.word a) (Allowed.word b) e =
     let m = marked k end v w r s a b e in
     (ap (λ (x : ℕ). Field.word x) (m .0), m .1)

@@ -8,7 +8,7 @@ use lib.ListN.{length, set, drop, take, replicate, length-append, length-drop, l
 use lib.Seq.{take-at}
 use Rattle.words.specs.Listing.{listing}
 use Rattle.words.proofs.Listing.{length-listing}
-use Rattle.gridtext.specs.Unpacked.{Front}
+use Rattle.gridtext.specs.inner.Unpacked.{Front}
 
 module _ {A : Type 0} where
   pub filled-none : (value : ℕ → A) (l : List A) → l ≡ listing 0 value ++ drop 0 l

@@ -9,7 +9,7 @@ use lib.ListN.{length, length-append}
 use Rattle.cells.specs.Listed.{Entry}
 use Rattle.walk.specs.Read.{entryAt, entriesFrom, componentAt, componentsFrom}
 use Rattle.gridtext.specs.Answer.{entryLine, entryLines, componentLines}
-use Rattle.gridtext.specs.Printed.{Printed, Room}
+use Rattle.gridtext.specs.inner.Printed.{Printed, Room}
 use Rattle.gridtext.proofs.Printing.{printed-then}
 
 -- the pieces below n

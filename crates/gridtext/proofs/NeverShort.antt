@@ -24,7 +24,7 @@ use Rattle.frame.proofs.Labelling.{kept-less}
 use Rattle.gridtext.specs.Lines.{CornerLine, TriangleLine}
 use Rattle.gridtext.specs.Text.{Frame, Within}
 use Rattle.gridtext.specs.Lists.{inputOf}
-use Rattle.gridtext.specs.Unpacked.{mostComponents, mostEntries, workWords}
+use Rattle.gridtext.specs.inner.Unpacked.{mostComponents, mostEntries, workWords}
 use Rattle.gridtext.proofs.FewEntries.{few}
 
 pub record NeverShort (f : Frame) : Type 0 where

@@ -9,8 +9,8 @@ use Rattle.cells.specs.Listed.{In}
 use Rattle.gridtext.specs.declared.inner.row.Kind.{Kind}
 use Rattle.gridtext.specs.declared.inner.row.Sort.{Sort}
 use Rattle.gridtext.specs.Lines.{Field, ParamsLine, CornerLine, TriangleLine, Line, lineOf, printed, LineWords}
-use Rattle.gridtext.specs.Rows.{letterOf, kindsOf}
-use Rattle.gridtext.specs.Read.{sortOf}
+use Rattle.gridtext.specs.inner.Rows.{letterOf, kindsOf}
+use Rattle.gridtext.specs.inner.Read.{sortOf}
 use Rattle.gridtext.proofs.Rows.{Fits, rowOf, one-of-row, fieldsOf, row-fits, line-row}
 
 one-letter : (a b : Sort) → letterOf a ≡ letterOf b → a ≡ b

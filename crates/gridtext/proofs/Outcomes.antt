@@ -14,7 +14,7 @@ use Rattle.gridtext.specs.declared.inner.row.Sort.{Sort}
 use Rattle.gridtext.specs.Lines.{Line, lineOf, printed, LineWords}
 use Rattle.gridtext.specs.Text.{mostCornerLines, mostTriangleLines, Frame, linesOf, Within, Fitting, Reads, Bad}
 use Rattle.gridtext.specs.Lists.{paramsOf}
-use Rattle.gridtext.specs.Read.{paramWords, frameOf, cornerWords, triangleWords, lineWords, allWords, Laid, sortOf, Of, NoLine, LineStands, LineAt, LinesAt}
+use Rattle.gridtext.specs.inner.Read.{paramWords, frameOf, cornerWords, triangleWords, lineWords, allWords, Laid, sortOf, Of, NoLine, LineStands, LineAt, LinesAt}
 use Rattle.gridtext.proofs.Runs.{in-append, printed-append}
 use Rattle.gridtext.proofs.Parsing.{Behind, fits-behind, lines-of, a-params, a-corner, a-triangle}
 

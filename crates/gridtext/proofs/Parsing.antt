@@ -12,7 +12,7 @@ use Rattle.digits.proofs.Numerals.{split-equal}
 use Rattle.gridtext.specs.declared.inner.row.Sort.{Sort}
 use Rattle.gridtext.specs.Lines.{ParamsLine, CornerLine, TriangleLine, Line, LineWords}
 use Rattle.gridtext.specs.Text.{mostCornerLines, mostTriangleLines, Frame, linesOf, Within, Fitting}
-use Rattle.gridtext.specs.Read.{sortOf, Of}
+use Rattle.gridtext.specs.inner.Read.{sortOf, Of}
 
 -- ---- counting lines
 

@@ -7,7 +7,7 @@ use native.Mathlib.Omega.{arith}
 use lib.ListN.{length, take, drop, length-append, length-drop}
 use lib.Seq.{take-at, drop-at, drop-drop, length-take-le, take-length, paste, take-paste, drop-paste}
 use Rattle.gridtext.specs.Lines.{spaced}
-use Rattle.gridtext.specs.Printed.{Printed, Room, lastFields}
+use Rattle.gridtext.specs.inner.Printed.{Printed, Room, lastFields}
 
 -- ---- one text
 

@@ -5,7 +5,8 @@ use Prim.Native.Nat.{ℕ, zero, suc, _+_, _-_, _≤_, _<_}
 use native.Mathlib.Omega.{arith}
 use lib.ListN.{length, length-append}
 use Rattle.cells.specs.Listed.{Entry}
-use Rattle.cells.specs.Holes.{total, holes}
+use Rattle.cells.specs.Sums.{total}
+use Rattle.cells.specs.Holes.{holes}
 use Rattle.walk.specs.Call.{componentWords, entryWords, allEntries}
 use Rattle.walk.specs.Read.{beforeOf, countOf, holesOf, componentAt, componentsFrom}
 use Rattle.walk.proofs.ByPlace.{entries-count}
@@ -13,8 +14,8 @@ use Rattle.walk.proofs.Writing.{length-entry-words, length-component-words}
 use Rattle.walk.proofs.ReadBack.{reads-back, holes-of, starts-at, entries-in-all}
 use Rattle.digits.specs.Digits.{decimalOf}
 use Rattle.gridtext.specs.Answer.{numbersLine, entryLines, componentLines, componentsText}
-use Rattle.gridtext.specs.Printed.{lastFields}
-use Rattle.gridtext.specs.Held.{Holds, Readable}
+use Rattle.gridtext.specs.inner.Printed.{lastFields}
+use Rattle.gridtext.specs.inner.Held.{Holds, Readable}
 use Rattle.gridtext.proofs.Joining.{joined, componentPiece, components-joined}
 
 -- ---- a component

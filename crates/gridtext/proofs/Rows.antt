@@ -9,8 +9,9 @@ use Rattle.digits.specs.declared.End.{End}
 use Rattle.gridtext.specs.declared.inner.row.Kind.{Kind}
 use Rattle.gridtext.specs.declared.inner.row.Sort.{Sort}
 use Rattle.gridtext.specs.Lines.{Field, Line, fieldOf, spaced, lineOf, WordField, LineWords}
-use Rattle.gridtext.specs.Rows.{letterOf, kindsOf, mostWords, endAfter, formOf, Allowed, spreadWords, wordOf, wordsOf}
-use Rattle.gridtext.specs.Read.{paramWords, cornerWords, triangleWords, lineWords, sortOf, Of}
+use Rattle.gridtext.specs.inner.Rows.{letterOf, kindsOf, mostWords, endAfter, formOf, Allowed, spreadWords, wordsOf}
+use Rattle.gridtext.specs.Lists.{wordOf}
+use Rattle.gridtext.specs.inner.Read.{paramWords, cornerWords, triangleWords, lineWords, sortOf, Of}
 use Rattle.gridtext.proofs.Fields.{one-field}
 
 -- ---- fields of kinds

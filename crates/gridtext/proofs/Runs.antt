@@ -13,8 +13,8 @@ use Rattle.cells.proofs.Tests.{not-in}
 use Rattle.gridtext.specs.declared.inner.line.Next.{Next}
 use Rattle.gridtext.specs.declared.inner.row.Sort.{Sort}
 use Rattle.gridtext.specs.Lines.{Field, Line, lineOf, printed}
-use Rattle.gridtext.specs.Rows.{sizeOf, mostWords, spreadWords}
-use Rattle.gridtext.specs.Read.{paramWords, cornerWords, triangleWords, lineWords, allWords, Laid, sortOf, Of, NoLine, LineAt, LinesAt}
+use Rattle.gridtext.specs.inner.Rows.{sizeOf, mostWords, spreadWords}
+use Rattle.gridtext.specs.inner.Read.{paramWords, cornerWords, triangleWords, lineWords, allWords, Laid, sortOf, Of, NoLine, LineAt, LinesAt}
 
 -- ---- lists of lines, one longer
 

@@ -14,8 +14,8 @@ use Rattle.gridtext.specs.declared.inner.row.Found.{Found}
 use Rattle.gridtext.specs.declared.inner.row.Kind.{Kind}
 use Rattle.gridtext.specs.declared.inner.row.Sort.{Sort}
 use Rattle.gridtext.specs.Lines.{Field, Line, lineOf}
-use Rattle.gridtext.specs.Rows.{letterOf, kindsOf, mostWords, endAfter, wordsOf, listOf, PairAt, FieldAt}
-use Rattle.gridtext.specs.Read.{lineWords, Of, NoLine, LineAt}
+use Rattle.gridtext.specs.inner.Rows.{letterOf, kindsOf, mostWords, endAfter, wordsOf, listOf, PairAt, FieldAt}
+use Rattle.gridtext.specs.inner.Read.{lineWords, Of, NoLine, LineAt}
 use Rattle.gridtext.proofs.Rows.{Fits, rowOf, rowWords, placesOf, total, words-places, total-few, Got, RowAt, row-left, row-first, whole, fieldsOf, row-fits, line-of, line-row, line-words}
 
 -- the first i fields of a line of the sort at `at` have been taken, and gave n words

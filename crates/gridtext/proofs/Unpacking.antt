@@ -12,11 +12,11 @@ use Rattle.measure.specs.Float.{bits}
 use Rattle.frame.specs.Stages.{Input}
 use Rattle.gridtext.specs.declared.FrameRead.{FrameRead}
 use Rattle.gridtext.specs.Lines.{Field, CornerLine, TriangleLine, Line}
-use Rattle.gridtext.specs.Rows.{cornerSize, triangleSize, spreadWords, twinWord, wordOf}
+use Rattle.gridtext.specs.inner.Rows.{cornerSize, triangleSize, spreadWords}
+use Rattle.gridtext.specs.Lists.{twinWord, wordOf, markOf, inputOf}
 use Rattle.gridtext.specs.Text.{mostCornerLines, mostTriangleLines, Frame}
-use Rattle.gridtext.specs.Read.{cornerWords, triangleWords, lineWords, allWords, sortOf, frameOf}
-use Rattle.gridtext.specs.Lists.{markOf, inputOf}
-use Rattle.gridtext.specs.Unpacked.{Standing, positionAt, slotAt, tripleAt, Front}
+use Rattle.gridtext.specs.inner.Read.{cornerWords, triangleWords, lineWords, allWords, sortOf, frameOf}
+use Rattle.gridtext.specs.inner.Unpacked.{Standing, positionAt, slotAt, tripleAt, Front}
 use Rattle.gridtext.proofs.Runs.{line-size}
 use Rattle.gridtext.proofs.Filling.{filled-front}
 

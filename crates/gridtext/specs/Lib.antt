@@ -1,10 +1,6 @@
 pub mod Lines
 pub mod Text
-pub mod Rows
-pub mod Read
 pub mod Answer
-pub mod Printed
-pub mod Held
 pub mod Lists
 pub mod Gridlabel
-pub mod Unpacked
+pub mod inner

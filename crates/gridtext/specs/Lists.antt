@@ -3,16 +3,25 @@
 use mathlib.Core.List.{[], _∷_, map, flatMap}
 use Prim.Native.Nat.{ℕ}
 use Rattle.measure.specs.Float.{bits}
+use Rattle.mesh.specs.HalfEdge.{noTwin}
 use Rattle.frame.specs.declared.Params.{Params}
 use Rattle.frame.specs.Stages.{Input}
 use Rattle.gridtext.specs.Lines.{Field, ParamsLine, CornerLine, TriangleLine}
-use Rattle.gridtext.specs.Rows.{twinWord, wordOf}
 use Rattle.gridtext.specs.Text.{Frame}
 
 -- a mark of 0 says that the spread beside it is missing
 unfoldable pub markOf : Field → ℕ
 markOf Field.minus = 0
 markOf (Field.word v) = 1
+
+unfoldable pub wordOf : Field → ℕ
+wordOf Field.minus = 0
+wordOf (Field.word v) = v
+
+-- a minus is no twin
+unfoldable pub twinWord : Field → ℕ
+twinWord Field.minus = noTwin
+twinWord (Field.word v) = v
 
 unfoldable pub paramsOf : ParamsLine → Params
 paramsOf p = record {

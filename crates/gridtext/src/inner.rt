@@ -3,8 +3,8 @@
 ghost use mathlib.Core.Path.{_≡_};
 ghost use Prim.Native.Nat.{_*_, _≤_};
 ghost use lib.ListN.{length};
-ghost use Rattle.gridtext.specs.Read.{ParamsStanding, Parses};
-ghost use Rattle.gridtext.specs.Rows.{cornerSize, triangleSize, mostWords};
+ghost use Rattle.gridtext.specs.inner.Read.{ParamsStanding, Parses};
+ghost use Rattle.gridtext.specs.inner.Rows.{cornerSize, triangleSize, mostWords};
 ghost use Rattle.gridtext.specs.Text.{mostCornerLines, mostTriangleLines};
 use crate::FrameRead;
 use crate::Parsed;

@@ -4,7 +4,7 @@ ghost use Prim.Native.Nat.{_≤_};
 ghost use lib.ListN.{length};
 ghost use Rattle.gridtext.specs.Text.{Frame};
 ghost use Rattle.gridtext.specs.Gridlabel.{mostText, Answered};
-ghost use Rattle.gridtext.specs.Unpacked.{Standing, AnswersStanding};
+ghost use Rattle.gridtext.specs.inner.Unpacked.{Standing, AnswersStanding};
 use frame::Params;
 use inner::label::label_lines;
 use inner::print::print_bad;

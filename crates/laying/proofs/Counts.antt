@@ -5,7 +5,7 @@ use Prim.Native.Nat.{ℕ, zero, suc, _+_, _≤_, _<_}
 use native.Mathlib.Decide.{ℕ-discrete}
 use native.Mathlib.Omega.{arith}
 use lib.ListN.{getD}
-use Rattle.laying.specs.Invariant.{sign, count}
+use Rattle.laying.specs.inner.Invariant.{sign, count}
 
 sign-le : (x : ℕ) → sign x ≤ 1
 sign-le zero = omega arith

@@ -10,11 +10,11 @@ use Rattle.cells.specs.Kind.{Next, Reached, ReachedCorner, origin}
 use Rattle.cells.specs.Kind.Chain.{here, on}
 use Rattle.cells.specs.Quads.{quads}
 use Rattle.cells.proofs.Squares.{four, fits-round}
-use Rattle.laying.specs.Layout.{Near, mark, queued, firstWord, secondWord, pairOf, Given}
-use Rattle.laying.specs.Invariant.{Cornered, Met, State}
-use Rattle.laying.specs.Settling.{Bears}
-use Rattle.laying.specs.Moves.{Grows, Closed, Seeded}
-use Rattle.laying.specs.Answers.{Fitted}
+use Rattle.laying.specs.inner.Layout.{Near, mark, queued, firstWord, secondWord, pairOf, Given}
+use Rattle.laying.specs.inner.Invariant.{Cornered, Met, State}
+use Rattle.laying.specs.inner.Settling.{Bears}
+use Rattle.laying.specs.inner.Moves.{Grows, Closed, Seeded}
+use Rattle.laying.specs.inner.Answers.{Fitted}
 use Rattle.laying.proofs.Around.{same-corner}
 use Rattle.laying.proofs.Facing.{corner-below, next-across, reached-below}
 use Rattle.laying.proofs.Stepping.{tail-le, reached-at}

@@ -9,7 +9,7 @@ use Rattle.cells.specs.Cells.{Side, cell}
 use Rattle.cells.specs.Kind.{Next, Reached}
 use Rattle.cells.specs.Kind.Chain.{here, on}
 use Rattle.cells.specs.Quads.{quads}
-use Rattle.laying.specs.Layout.{startOf, endOf, Across, Given}
+use Rattle.laying.specs.inner.Layout.{sideStart, sideEnd, Across, Given}
 use Rattle.laying.proofs.Around.{same-corner}
 
 -- side i of p and side j of q face each other
@@ -20,7 +20,7 @@ pub record Faces (cells : List ℕ) (p q : ℕ) : Type 0 where
   pub j-small : j < 4
   pub across : Across cells (4 * p + i) (4 * q + j)
 
-pub side-of : (cells : List ℕ) (e : ℕ) → Side 4 (cell 4 cells (e / 4)) (startOf cells e) (endOf cells e)
+pub side-of : (cells : List ℕ) (e : ℕ) → Side 4 (cell 4 cells (e / 4)) (sideStart cells e) (sideEnd cells e)
 side-of cells e = record {
   at = e % 4;
   small = omega arith;
@@ -28,10 +28,10 @@ side-of cells e = record {
   ends = same-corner cells (e / 4) ((e % 4 + 1) % 4) (e + 1) (omega arith);
 }
 
-starts-at : (cells : List ℕ) (q i : ℕ) → i < 4 → startOf cells (4 * q + i) ≡ cell 4 cells q i
+starts-at : (cells : List ℕ) (q i : ℕ) → i < 4 → sideStart cells (4 * q + i) ≡ cell 4 cells q i
 starts-at cells q i h = ap (λ (k : ℕ). getD cells k 0) (omega arith)
 
-ends-at : (cells : List ℕ) (q i : ℕ) → i < 4 → endOf cells (4 * q + i) ≡ cell 4 cells q ((i + 1) % 4)
+ends-at : (cells : List ℕ) (q i : ℕ) → i < 4 → sideEnd cells (4 * q + i) ≡ cell 4 cells q ((i + 1) % 4)
 ends-at cells q i h = ap (λ (k : ℕ). getD cells k 0) (omega arith)
 
 module _ {span : ℕ} {cells : List ℕ} {n : ℕ} (given : Given span cells n) where
@@ -43,7 +43,7 @@ module _ {span : ℕ} {cells : List ℕ} {n : ℕ} (given : Given span cells n) 
     from = omega (arith, given .whole);
     to = omega (arith, given .whole);
     two = λ s. apart s;
-    step = record { x = startOf cells e; y = endOf cells e; there = side-of cells e; back = rw (a .start, a .end) (side-of cells g) };
+    step = record { x = sideStart cells e; y = sideEnd cells e; there = side-of cells e; back = rw (a .start, a .end) (side-of cells g) };
   }
     where
       apart : e / 4 ≡ g / 4 → ⊥

@@ -8,9 +8,9 @@ use native.Mathlib.Decide.{decLt}
 use native.Mathlib.Omega.{arith}
 use borrow.Author.Tests.{lt-ltb, le-ltb}
 use lib.ListN.{getD}
-use Rattle.cells.specs.Sides.{endsKey}
-use Rattle.laying.specs.Layout.{mark, keyAt, runOf, flagsAt, flagOf, startOf, endOf, senseFrom, sense, Scanned, Given, Table, Unscanned}
-use Rattle.laying.specs.Invariant.{Met, Flags}
+use Rattle.cells.specs.inner.Sides.{endsKey}
+use Rattle.laying.specs.inner.Layout.{mark, keyAt, runOf, flagsAt, flagOf, sideStart, sideEnd, senseFrom, sense, Scanned, Given, Table, Unscanned}
+use Rattle.laying.specs.inner.Invariant.{Met, Flags}
 use Rattle.laying.proofs.Facing.{corner-below}
 
 -- ---- senses and flags as numbers
@@ -69,9 +69,9 @@ module _ {span : ℕ} {cells : List ℕ} {n : ℕ} (given : Given span cells n) 
   -- what is met from one side of a run is met from each of its sense
   pub met-run : {w : List ℕ} (e g : ℕ) (ys : List ℕ) → Table span cells n w → e < 4 * n → g < 4 * n → runOf span n w e ≡ runOf span n w g → sense cells e ≡ sense cells g → Met cells n e ys → Met cells n g ys
   met-run {w} e g ys t el gl r s m f fl a =
-      let k : endsKey (startOf cells e) (endOf cells e) ≡ endsKey (startOf cells g) (endOf cells g) = sym (t .key e el) ∙ ap (keyAt span w) r ∙ t .key g gl in
+      let k : endsKey (sideStart cells e) (sideEnd cells e) ≡ endsKey (sideStart cells g) (sideEnd cells g) = sym (t .key e el) ∙ ap (keyAt span w) r ∙ t .key g gl in
       let b : (q i : ℕ) → q < n → getD cells (4 * q + i % 4) 0 < 4096 = λ q i h. omega (arith, corner-below given q i h, given .most) in
-      let z = same-ends (startOf cells e) (endOf cells e) (startOf cells g) (endOf cells g) (b (e / 4) e (omega arith)) (b (e / 4) (e + 1) (omega arith)) (b (g / 4) g (omega arith)) (b (g / 4) (g + 1) (omega arith)) k s in
+      let z = same-ends (sideStart cells e) (sideEnd cells e) (sideStart cells g) (sideEnd cells g) (b (e / 4) e (omega arith)) (b (e / 4) (e + 1) (omega arith)) (b (g / 4) g (omega arith)) (b (g / 4) (g + 1) (omega arith)) k s in
       m f fl (record { start = z .0 ∙ a .start; end = z .1 ∙ a .end })
 
   pub met-still : (xs ys : List ℕ) (e : ℕ) → ((q : ℕ) → q < span → mark xs q ≢ 0 → mark ys q ≢ 0) → Met cells n e xs → Met cells n e ys
@@ -91,5 +91,5 @@ module _ {span : ℕ} {cells : List ℕ} {n : ℕ} (given : Given span cells n) 
     pub flags-none : {seed : ℕ} → Unscanned span cells n seed xs → Flags span cells n seed ys
     flags-none u = record {
       small = λ e l r. omega (arith, same-flag e, u .none e l r);
-      met = λ e l r h. absurd (none-scanned (is-sense (startOf cells e) (endOf cells e)) (rw (same-flag e, u .none e l r) at h));
+      met = λ e l r h. absurd (none-scanned (is-sense (sideStart cells e) (sideEnd cells e)) (rw (same-flag e, u .none e l r) at h));
     }

@@ -9,10 +9,10 @@ use lib.ListN.{length, getD, set, length-set}
 use Rattle.cells.specs.Cells.{cell}
 use Rattle.cells.specs.Kind.{Reached}
 use Rattle.cells.specs.Quads.{quads}
-use Rattle.laying.specs.Layout.{mark, queued, firstWord, secondWord, runOf, flagsAt, flagOf, startOf, endOf, sense, Scanned, Given, Table}
-use Rattle.laying.specs.Invariant.{Cornered, Met, Flags, State}
-use Rattle.laying.specs.Settling.{Bears}
-use Rattle.laying.specs.Moves.{stuck, Grows, Rest, Goes, Went}
+use Rattle.laying.specs.inner.Layout.{mark, queued, firstWord, secondWord, runOf, flagsAt, flagOf, sideStart, sideEnd, sense, Scanned, Given, Table}
+use Rattle.laying.specs.inner.Invariant.{Cornered, Met, Flags, State}
+use Rattle.laying.specs.inner.Settling.{Bears}
+use Rattle.laying.specs.inner.Moves.{stuck, Grows, Rest, Goes, Went}
 use Rattle.laying.proofs.Facing.{corner-below}
 use Rattle.laying.proofs.Counts.{count-same}
 use Rattle.laying.proofs.Settling.{skip, put}
@@ -102,14 +102,14 @@ module _ (span : ℕ) (cells : List ℕ) (n seed : ℕ) (xs ys : List ℕ) (tail
   other-flag g gl d = ap (λ (m : ℕ). getD zs (flagsAt span n + m) 0) (run-of g gl) ∙ other (flagsAt span n + runOf span n xs g) (omega arith) ∙ ap (λ (m : ℕ). getD ys (flagsAt span n + m) 0) (sym (same-run rest g gl))
 
   small : (g : ℕ) → g < 4 * n → Reached quads cells seed (g / 4) → Dec (runOf span n xs g ≡ runOf span n xs e) → flagOf span n zs g < 4
-  small g gl q (yes d) = rw (own-flag g gl d) (set-small (flagOf span n xs e) (is-sense (startOf cells e) (endOf cells e)) (before .small e el reached) unset)
+  small g gl q (yes d) = rw (own-flag g gl d) (set-small (flagOf span n xs e) (is-sense (sideStart cells e) (sideEnd cells e)) (before .small e el reached) unset)
   small g gl q (no d) = rw (other-flag g gl d) (goes .state .flags .small g gl q)
 
   same-sense : (g : ℕ) → g < 4 * n → Reached quads cells seed (g / 4) → runOf span n xs g ≡ runOf span n xs e → Scanned (flagOf span n xs e + sense cells e) (sense cells g) → Dec (sense cells g ≡ sense cells e) → Met cells n g ys
   same-sense g gl q d h (yes s) = met-run given e g ys table el gl (sym d) (sym s) (goes .done)
   same-sense g gl q d h (no s) =
       let f : flagOf span n xs e ≡ flagOf span n xs g = ap (λ (m : ℕ). getD xs (flagsAt span n + m) 0) (sym d) in
-      let o : Scanned (flagOf span n xs e) (sense cells g) = set-other (flagOf span n xs e) (is-sense (startOf cells e) (endOf cells e)) (is-sense (startOf cells g) (endOf cells g)) unset s h in
+      let o : Scanned (flagOf span n xs e) (sense cells g) = set-other (flagOf span n xs e) (is-sense (sideStart cells e) (sideEnd cells e)) (is-sense (sideStart cells g) (sideEnd cells g)) unset s h in
       met-still given xs ys g (goes .grows .still) (before .met g gl q (rw f at o))
 
   met : (g : ℕ) → g < 4 * n → Reached quads cells seed (g / 4) → Scanned (flagOf span n zs g) (sense cells g) → Dec (runOf span n xs g ≡ runOf span n xs e) → Met cells n g ys

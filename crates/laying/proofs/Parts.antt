@@ -6,9 +6,9 @@ use mathlib.Core.List.{List}
 use Prim.Native.Nat.{ℕ, _+_, _*_, _/_, _≤_, _<_}
 use native.Mathlib.Decide.{ℕ-discrete, decLt}
 use native.Mathlib.Omega.{arith}
-use Rattle.laying.specs.Layout.{mark, queued, keyAt, numberAt, runOf, Given, Place, Table}
-use Rattle.laying.specs.Invariant.{Meets, Met, State}
-use Rattle.laying.specs.Moves.{stuck, Grows, Rest, Goes, Went, MetRound, Closed}
+use Rattle.laying.specs.inner.Layout.{mark, queued, keyAt, numberAt, runOf, Given, InRun, Table}
+use Rattle.laying.specs.inner.Invariant.{Meets, Met, State}
+use Rattle.laying.specs.inner.Moves.{stuck, Grows, Rest, Goes, Went, MetRound, Closed}
 use Rattle.laying.proofs.Counts.{eq-or-lt}
 use Rattle.laying.proofs.Resting.{rest-refl, rest-trans}
 use Rattle.laying.proofs.Flagged.{met-still}
@@ -72,7 +72,7 @@ module _ {span : ℕ} {cells : List ℕ} {n : ℕ} {xs : List ℕ} (given : Give
       let p = table .meets e g el gl o in
       go p (decLt (p .at) i)
     where
-      go : (p : Place span n xs e g) → Dec (p .at < i) → mark ys (g / 4) ≢ 0
+      go : (p : InRun span n xs e g) → Dec (p .at < i) → mark ys (g / 4) ≢ 0
       go p (yes d) =
           let m : Meets cells e g ys = subst (λ (z : ℕ). Meets cells e z ys) (p .is) (r (p .at) (p .from) d) in
           m o

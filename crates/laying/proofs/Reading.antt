@@ -8,7 +8,7 @@ use mir.Syntax.{w32}
 use mir.Val.{SFits, toZ, ofZ}
 use mir.Facts.{toZ-ofZ}
 use Rattle.cells.proofs.Whole.{up, down, up-pos, up-negsuc, sum, opp, of, to}
-use Rattle.laying.specs.Layout.{centre, label}
+use Rattle.laying.specs.inner.Layout.{centre, label}
 
 pub word-sum : (w : ℕ) → up (label w) + centre ≡ w + down (label w)
 word-sum w = omega (arith, sum (pos w) (negℤ (pos centre)), opp (pos centre), up-pos w, up-pos centre)

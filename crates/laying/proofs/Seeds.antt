@@ -14,10 +14,10 @@ use Rattle.cells.specs.Kind.{Reached}
 use Rattle.cells.specs.Kind.Chain.{here}
 use Rattle.cells.specs.Quads.{Round, quads}
 use Rattle.cells.proofs.Squares.{first-square}
-use Rattle.laying.specs.Layout.{centre, Word, Near, mark, queued, firstWord, secondWord, pairOf, Given, Blank, Unscanned}
-use Rattle.laying.specs.Invariant.{Cornered, State}
-use Rattle.laying.specs.Settling.{Bears, Differs, Good, Placed}
-use Rattle.laying.specs.Moves.{Planted}
+use Rattle.laying.specs.inner.Layout.{centre, Word, Near, mark, queued, firstWord, secondWord, pairOf, Given, Blank, Unscanned}
+use Rattle.laying.specs.inner.Invariant.{Cornered, State}
+use Rattle.laying.specs.inner.Settling.{Bears, Differs, Good, Placed}
+use Rattle.laying.specs.inner.Moves.{Planted}
 use Rattle.laying.proofs.Reading.{same-word}
 use Rattle.laying.proofs.Around.{each}
 use Rattle.laying.proofs.Facing.{corner-below}

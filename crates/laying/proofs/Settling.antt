@@ -10,9 +10,9 @@ use native.Mathlib.Omega.{arith}
 use lib.ListN.{length, getD, set, length-set}
 use lib.Seq.{getD-set-same, getD-set-other}
 use Rattle.cells.specs.Cells.{cell}
-use Rattle.laying.specs.Layout.{firstWord, secondWord, startOf, endOf}
-use Rattle.laying.specs.Settling.{Bears, Settled, Differs, Placed, Ends, EndsAt, Spread, SpreadAt}
-use Rattle.laying.specs.Settling.Settled.{fresh, same, other}
+use Rattle.laying.specs.inner.Layout.{firstWord, secondWord, sideStart, sideEnd}
+use Rattle.laying.specs.inner.Settling.{Bears, Settled, Differs, Placed, Ends, EndsAt, Spread, SpreadAt}
+use Rattle.laying.specs.inner.Settling.Settled.{fresh, same, other}
 
 pub skip : (l : List ℕ) (i a j : ℕ) → j ≢ i → getD (set l i a) j 0 ≡ getD l j 0
 skip l i a j n = getD-set-other l i j a 0 n
@@ -116,9 +116,9 @@ placed-second {span} {xs} {ys} {zs} {c} {d} {xc} {yc} {xd} {yd} {r} {s} a t b l 
     go {s = false} w b = second-differs w cl dl two (differs b refl)
 
 -- the same of the quad of a side, its corners by other names
-pub spread-at : {span : ℕ} (cells : List ℕ) (g a b c d : ℕ) {xs ys : List ℕ} {r : Bool} → a ≡ startOf cells g → b ≡ endOf cells g → c ≡ cell 4 cells (g / 4) (g + 2) → d ≡ cell 4 cells (g / 4) (g + 3)
+pub spread-at : {span : ℕ} (cells : List ℕ) (g a b c d : ℕ) {xs ys : List ℕ} {r : Bool} → a ≡ sideStart cells g → b ≡ sideEnd cells g → c ≡ cell 4 cells (g / 4) (g + 2) → d ≡ cell 4 cells (g / 4) (g + 3)
     → Spread span xs ys c d (firstWord span xs a) (secondWord span xs a) (firstWord span xs b) (secondWord span xs b) r → SpreadAt span cells g xs ys r
 spread-at cells g a b c d ea eb ec ed p = rw (← ea, ← eb, ← ec, ← ed) p
 
-pub ends-at : (span : ℕ) (cells : List ℕ) (g a b : ℕ) (xs : List ℕ) → a ≡ startOf cells g → b ≡ endOf cells g → EndsAt span cells xs g → Ends (firstWord span xs a) (secondWord span xs a) (firstWord span xs b) (secondWord span xs b)
+pub ends-at : (span : ℕ) (cells : List ℕ) (g a b : ℕ) (xs : List ℕ) → a ≡ sideStart cells g → b ≡ sideEnd cells g → EndsAt span cells xs g → Ends (firstWord span xs a) (secondWord span xs a) (firstWord span xs b) (secondWord span xs b)
 ends-at span cells g a b xs ea eb p = rw (ea, eb) p

@@ -13,10 +13,10 @@ use Rattle.cells.specs.Kind.{Pair, _⊖_, Reached, Fits}
 use Rattle.cells.specs.Kind.Chain.{on}
 use Rattle.cells.specs.Quads.{OneStep, Square, Round, quads}
 use Rattle.cells.proofs.Squares.{step-back, square-forced}
-use Rattle.laying.specs.Layout.{Near, mark, queued, firstWord, secondWord, pairOf, startOf, endOf, Across, Given}
-use Rattle.laying.specs.Invariant.{Waits, Cornered, Cover, Meets, State}
-use Rattle.laying.specs.Settling.{Bears, Differs, Good, Placed, EndsAt, SpreadAt}
-use Rattle.laying.specs.Moves.{stuck, Grows, Rest, Went}
+use Rattle.laying.specs.inner.Layout.{Near, mark, queued, firstWord, secondWord, pairOf, sideStart, sideEnd, Across, Given}
+use Rattle.laying.specs.inner.Invariant.{Waits, Cornered, Cover, Meets, State}
+use Rattle.laying.specs.inner.Settling.{Bears, Differs, Good, Placed, EndsAt, SpreadAt}
+use Rattle.laying.specs.inner.Moves.{stuck, Grows, Rest, Went}
 use Rattle.laying.proofs.Reading.{same-word}
 use Rattle.laying.proofs.Around.{each, SquareFrom, square-from}
 use Rattle.laying.proofs.Facing.{corner-below, across-next}
@@ -56,20 +56,20 @@ module _ (span : ℕ) (cells : List ℕ) (n seed : ℕ) (xs : List ℕ) (tail e 
   corner-lt : (k : ℕ) → cell 4 cells (g / 4) k < span
   corner-lt k = corner-below given (g / 4) k pl
 
-  has-a : firstWord span xs (startOf cells g) ≢ 0
+  has-a : firstWord span xs (sideStart cells g) ≢ 0
   has-a = rw (← ac .end) (st .full (e / 4) ql me (e + 1))
 
-  has-b : firstWord span xs (endOf cells g) ≢ 0
+  has-b : firstWord span xs (sideEnd cells g) ≢ 0
   has-b = rw (← ac .start) (st .full (e / 4) ql me e)
 
-  near-a : Near tail (firstWord span xs (startOf cells g)) × Near tail (secondWord span xs (startOf cells g))
-  near-a = st .near (startOf cells g) (corner-lt g) has-a
+  near-a : Near tail (firstWord span xs (sideStart cells g)) × Near tail (secondWord span xs (sideStart cells g))
+  near-a = st .near (sideStart cells g) (corner-lt g) has-a
 
-  near-b : Near tail (firstWord span xs (endOf cells g)) × Near tail (secondWord span xs (endOf cells g))
-  near-b = st .near (endOf cells g) (corner-lt (g + 1)) has-b
+  near-b : Near tail (firstWord span xs (sideEnd cells g)) × Near tail (secondWord span xs (sideEnd cells g))
+  near-b = st .near (sideEnd cells g) (corner-lt (g + 1)) has-b
 
-  unit : OneStep (pairOf span xs (endOf cells g) ⊖ pairOf span xs (startOf cells g))
-  unit = rw (← ac .end, ← ac .start) (step-back (pairOf span xs (startOf cells e)) (pairOf span xs (endOf cells e)) (square-from (pairOf span xs) cells (e / 4) 0 e (st .round (e / 4) ql me) .side))
+  unit : OneStep (pairOf span xs (sideEnd cells g) ⊖ pairOf span xs (sideStart cells g))
+  unit = rw (← ac .end, ← ac .start) (step-back (pairOf span xs (sideStart cells e)) (pairOf span xs (sideEnd cells e)) (square-from (pairOf span xs) cells (e / 4) 0 e (st .round (e / 4) ql me) .side))
 
   pub step-ends : EndsAt span cells xs g
   step-ends =
@@ -80,13 +80,13 @@ module _ (span : ℕ) (cells : List ℕ) (n seed : ℕ) (xs : List ℕ) (tail e 
   step-reached = on (reached-at st ql me) (across-next given el gl ac)
 
   -- what the far corners are given, and what became of the workspace
-  module _ (ys : List ℕ) (r : Bool) (xc yc xd yd : ℕ) (sq : Square (pairOf span xs (startOf cells g)) (pairOf span xs (endOf cells g)) (pairAt xc yc) (pairAt xd yd))
+  module _ (ys : List ℕ) (r : Bool) (xc yc xd yd : ℕ) (sq : Square (pairOf span xs (sideStart cells g)) (pairOf span xs (sideEnd cells g)) (pairAt xc yc) (pairAt xd yd))
       (nears : (Near (tail + 1) xc × Near (tail + 1) yc) × (Near (tail + 1) xd × Near (tail + 1) yd))
       (placed : Placed span xs ys (cell 4 cells (g / 4) (g + 2)) (cell 4 cells (g / 4) (g + 3)) xc yc xd yd r) (free : mark xs (g / 4) ≡ 0) (room-w : 4 * span ≤ length xs) where
     force : (L : ℕ → Pair) → Fits quads cells seed L → (L (cell 4 cells (g / 4) (g + 2)) ≡ pairAt xc yc) × (L (cell 4 cells (g / 4) (g + 3)) ≡ pairAt xd yd)
     force L fit =
         let t : SquareFrom L (cell 4 cells (g / 4)) g = square-from L cells (g / 4) 0 g (fit .holds (e / 4) (g / 4) (reached-at st ql me) (across-next given el gl ac)) in
-        square-forced t sq (st .agrees L fit (startOf cells g) (corner-lt g) has-a) (st .agrees L fit (endOf cells g) (corner-lt (g + 1)) has-b)
+        square-forced t sq (st .agrees L fit (sideStart cells g) (corner-lt g) has-a) (st .agrees L fit (sideEnd cells g) (corner-lt (g + 1)) has-b)
 
     -- other words at a far corner refute every assignment
     refuted : (k x y : ℕ) → Differs span xs (cell 4 cells (g / 4) k) x y → (L : ℕ → Pair) → Fits quads cells seed L → L (cell 4 cells (g / 4) k) ≡ pairAt x y → ⊥
@@ -182,11 +182,11 @@ module _ (span : ℕ) (cells : List ℕ) (n seed : ℕ) (xs : List ℕ) (tail e 
       step-grows : Grows span xs zs tail (tail + 1)
       step-grows = record { more = omega arith; kept = kept; still = still; words = keep }
 
-      at-a : Bears span zs (startOf cells g) (firstWord span xs (startOf cells g)) (secondWord span xs (startOf cells g))
-      at-a = keep (startOf cells g) (corner-lt g) has-a
+      at-a : Bears span zs (sideStart cells g) (firstWord span xs (sideStart cells g)) (secondWord span xs (sideStart cells g))
+      at-a = keep (sideStart cells g) (corner-lt g) has-a
 
-      at-b : Bears span zs (endOf cells g) (firstWord span xs (endOf cells g)) (secondWord span xs (endOf cells g))
-      at-b = keep (endOf cells g) (corner-lt (g + 1)) has-b
+      at-b : Bears span zs (sideEnd cells g) (firstWord span xs (sideEnd cells g)) (secondWord span xs (sideEnd cells g))
+      at-b = keep (sideEnd cells g) (corner-lt (g + 1)) has-b
 
       at-c : Bears span zs (cell 4 cells (g / 4) (g + 2)) xc yc
       at-c = same-words (cell 4 cells (g / 4) (g + 2)) xc yc (corner-lt (g + 2)) (ok .at-c)

@@ -8,8 +8,8 @@ use Rattle.cells.specs.Kind.{Pair, _⊖_}
 use Rattle.cells.specs.Quads.{OneStep, Square}
 use Rattle.cells.specs.Quads.OneStep.{east, north, west, south}
 use Rattle.cells.proofs.Whole.{up, down, up-pos, up-negsuc, sum, opp, of, to, minus, pair}
-use Rattle.laying.specs.Layout.{label, Near}
-use Rattle.laying.specs.Settling.{Ends}
+use Rattle.laying.specs.inner.Layout.{label, Near}
+use Rattle.laying.specs.inner.Settling.{Ends}
 use Rattle.laying.proofs.Reading.{word-sum, step-sum, far-word}
 
 -- the pair of two words

@@ -6,10 +6,10 @@ use native.Mathlib.Decide.{ℕ-discrete}
 use native.Mathlib.Omega.{arith}
 use lib.ListN.{length, getD, set, length-set}
 use Rattle.cells.specs.Cells.{cell}
-use Rattle.laying.specs.Layout.{mark, queued, firstWord, secondWord}
-use Rattle.laying.specs.Invariant.{Cover}
-use Rattle.laying.specs.Settling.{Bears}
-use Rattle.laying.specs.Answers.{Wiped, Cleared}
+use Rattle.laying.specs.inner.Layout.{mark, queued, firstWord, secondWord}
+use Rattle.laying.specs.inner.Invariant.{Cover}
+use Rattle.laying.specs.inner.Settling.{Bears}
+use Rattle.laying.specs.inner.Answers.{Wiped, Cleared}
 use Rattle.laying.proofs.Around.{same-corner}
 use Rattle.laying.proofs.Counts.{eq-or-lt}
 use Rattle.laying.proofs.Settling.{skip, put}
@@ -91,30 +91,35 @@ clearing-more {span} {cells} {n} {xs} {ys} {zs} {i} q c w h l e =
       second = eq-or-lt (λ (j : ℕ). (k : ℕ) → secondWord span zs (cell 4 cells (queued span xs j) k) ≡ 0) i (rw (← f) (w .second)) (λ j s k. w .zero (3 * span + cell 4 cells (queued span xs j) k) (c .second j s k));
     }
 
+-- where the queue's quads have no marks and their corners no words, none has
+module _ {span : ℕ} {cells : List ℕ} {n : ℕ} {xs : List ℕ} {tail : ℕ} (ys : List ℕ) (v : Cover span cells n xs tail) where
+  pub marks-gone : ((q : ℕ) → q < n → mark xs q ≡ 0 → mark ys q ≡ 0) → ((j : ℕ) → j < tail → mark ys (queued span xs j) ≡ 0) → (q : ℕ) → q < n → mark ys q ≡ 0
+  marks-gone zero gone q l = go (ℕ-discrete (mark xs q) 0)
+    where
+      go : Dec (mark xs q ≡ 0) → mark ys q ≡ 0
+      go (yes z) = zero q l z
+      go (no m) = let o = v .waits q l m in ap (mark ys) (sym (o .is)) ∙ gone (o .at) (o .small)
+
+  pub firsts-gone : ((c : ℕ) → c < span → firstWord span xs c ≡ 0 → firstWord span ys c ≡ 0) → ((j : ℕ) → j < tail → (k : ℕ) → firstWord span ys (cell 4 cells (queued span xs j) k) ≡ 0)
+      → (c : ℕ) → c < span → firstWord span ys c ≡ 0
+  firsts-gone zero gone c l = go (ℕ-discrete (firstWord span xs c) 0)
+    where
+      go : Dec (firstWord span xs c ≡ 0) → firstWord span ys c ≡ 0
+      go (yes z) = zero c l z
+      go (no m) = let o = v .first c l m in ap (firstWord span ys) (sym (o .is)) ∙ gone (o .at) (o .small) (o .place)
+
 pub cleared : {span : ℕ} {cells : List ℕ} {n : ℕ} {xs ys : List ℕ} {tail i : ℕ} → Cover span cells n xs tail → Clearing span cells n xs ys i → tail ≤ i → Cleared span n xs ys
 cleared {span} {cells} {n} {xs} {ys} {tail} {i} v c h = record {
   len = c .len;
   middle = c .middle;
   high = c .high;
   blank = record {
-    marks = λ q l. marks q l (ℕ-discrete (mark xs q) 0);
-    first = λ k l. firsts k l (ℕ-discrete (firstWord span xs k) 0);
+    marks = marks-gone ys v (λ q l z. c .zero q z) (λ j l. c .gone j (omega arith));
+    first = firsts-gone ys v (λ k l z. c .zero (2 * span + k) z) (λ j l. c .first j (omega arith));
     second = λ k l. seconds k l (ℕ-discrete (secondWord span xs k) 0);
   };
 }
   where
-    marks : (q : ℕ) → q < n → Dec (mark xs q ≡ 0) → mark ys q ≡ 0
-    marks q l (yes z) = c .zero q z
-    marks q l (no m) =
-        let o = v .waits q l m in
-        ap (λ (t : ℕ). mark ys t) (sym (o .is)) ∙ c .gone (o .at) (omega (arith, o .small))
-
-    firsts : (k : ℕ) → k < span → Dec (firstWord span xs k ≡ 0) → firstWord span ys k ≡ 0
-    firsts k l (yes z) = c .zero (2 * span + k) z
-    firsts k l (no m) =
-        let o = v .first k l m in
-        ap (λ (t : ℕ). firstWord span ys t) (sym (o .is)) ∙ c .first (o .at) (omega (arith, o .small)) (o .place)
-
     seconds : (k : ℕ) → k < span → Dec (secondWord span xs k ≡ 0) → secondWord span ys k ≡ 0
     seconds k l (yes z) = c .zero (3 * span + k) z
     seconds k l (no m) =

@@ -1,5 +1,1 @@
-pub mod Layout
-pub mod Invariant
-pub mod Settling
-pub mod Moves
-pub mod Answers
+pub mod inner

@@ -3,9 +3,9 @@
 ghost use mathlib.Core.Logic.{_≢_};
 ghost use Prim.Native.Nat.{_*_, _/_, _≤_, _<_};
 ghost use lib.ListN.{length};
-ghost use Rattle.laying.specs.Layout.{mark, Across, Given, Table};
-ghost use Rattle.laying.specs.Invariant.{Meets, Met, State};
-ghost use Rattle.laying.specs.Moves.{Went, MetRound, Closed};
+ghost use Rattle.laying.specs.inner.Layout.{mark, Across, Given, Table};
+ghost use Rattle.laying.specs.inner.Invariant.{Meets, Met, State};
+ghost use Rattle.laying.specs.inner.Moves.{Went, MetRound, Closed};
 use crate::inner::corners::corner_of;
 use crate::inner::corners::sense_of;
 use crate::inner::layout::FLAGS;

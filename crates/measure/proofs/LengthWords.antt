@@ -17,7 +17,7 @@ use Rattle.measure.specs.Pattern as pattern
 use Rattle.measure.specs.Root.{unitsOf, IsRoot}
 use Rattle.measure.specs.RootComputed.{rootOf}
 use Rattle.measure.specs.Length.{squares, orZero, lengthOf}
-use Rattle.measure.specs.Value.{valueOf}
+use Rattle.measure.specs.Value.{wholeOf}
 use Rattle.measure.proofs.Sign.{odd-sign}
 use Rattle.measure.proofs.Patterns.{units-mono, units-lt}
 use Rattle.measure.proofs.PatternFloats.{positive-sign, clear-units}
@@ -93,8 +93,8 @@ word-back x l = ofBits-toBits binary32 x (l .held)
 pub word-one : (x y : Float) → IsLength x → IsLength y → toBits binary32 x ≡ toBits binary32 y → x ≡ y
 word-one x y l m e = sym (word-back x l) ∙ ap (ofBits binary32) e ∙ word-back y m
 
-value-clear : (x : Float) → signOf x ≡ false → valueOf x ≡ 2 ^ 277 + unitsOf x
-unfolding valueOf
+value-clear : (x : Float) → signOf x ≡ false → wholeOf x ≡ 2 ^ 277 + unitsOf x
+unfolding wholeOf
 value-clear x s = rw s
 
 units-back : (b c : ℕ) → pattern.units b ≤ pattern.units c → b ≤ c

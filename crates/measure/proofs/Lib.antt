@@ -19,6 +19,7 @@ pub mod NoTie
 pub mod RootRule
 pub mod RootComputed
 pub mod Value
+pub mod Compared
 pub mod Length
 pub mod LengthWords
 pub mod Worked

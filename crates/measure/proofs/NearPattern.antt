@@ -6,7 +6,8 @@ use native.Mathlib.Nat.{add-mul, mul-assoc, mul-le-mul-right, le-trans, le-of-eq
 use native.Mathlib.Omega.{arith}
 use borrow.Author.Tests.{ltb-true, ltb-false}
 use lib.Dec.{ltb}
-use Rattle.measure.specs.Pattern.{units, Near, RootBits}
+use Rattle.measure.specs.Pattern.{units}
+use Rattle.measure.specs.inner.RootSteps.{NearestRoot, RootBits}
 use Rattle.measure.proofs.Squares.{square-le, square-scale, square-odd}
 use Rattle.measure.proofs.Patterns.{units-at, units-le-next}
 
@@ -50,7 +51,7 @@ high-at n k r p e pe h =
     le-trans (scale-ge (r + r) n (2 ^ k) g) (square-le both)
 
 -- the pattern of the whole number r nearest to the root of n, at the exponent k, is that of the root of n * 4 ^ k
-pub near-pattern : (n k r : ℕ) → 70368744177664 ≤ n → n < 281474976710656 → k ≤ 200 → Near n r → RootBits (4 * (n * (2 ^ k * 2 ^ k))) (k * 8388608 + r)
+pub near-pattern : (n k r : ℕ) → 70368744177664 ≤ n → n < 281474976710656 → k ≤ 200 → NearestRoot n r → RootBits (4 * (n * (2 ^ k * 2 ^ k))) (k * 8388608 + r)
 near-pattern n k r lo hi kk near =
     record {
       least = omega (arith, near .least);

@@ -14,7 +14,7 @@ use lib.Ieee.Exact.{HasValue, odd-sign}
 use lib.Ieee.Fits.{down-pos}
 use lib.Ieee.Positive.{positive, positive-finite}
 use lib.Ieee.Scale.{finite}
-use Rattle.measure.specs.Float.{signOf, absOf}
+use Rattle.measure.specs.Float.{signOf}
 use Rattle.measure.specs.Pattern.{units}
 use Rattle.measure.specs.Root.{unitsOf}
 use Rattle.measure.proofs.Sign.{sign-of-bits}
@@ -142,7 +142,7 @@ own-units w f p = clear-units w f (positive-finite w p) (positive-sign w p)
 none-exact : (e : ℤ) → zero * up e * 2 ^ 149 ≡ zero * up e * 2 ^ 149 / down e * down e
 none-exact e = let n = zero-product (up e) (2 ^ 149) in n ∙ sym (ap (λ (k : ℕ). k / down e * down e) n ∙ ap (λ (k : ℕ). k * down e) (zero-div (down e)) ∙ zero-mul (down e))
 
-pub whole-multiple : (x : Float) → T (fits binary32 x) → T (finite x) → HasValue (absOf x) false (unitsOf x) (2 ^ 149)
+pub whole-multiple : (x : Float) → T (fits binary32 x) → T (finite x) → HasValue x (signOf x) (unitsOf x) (2 ^ 149)
 unfolding unitsOf fits
 whole-multiple nan f h = absurd h
 whole-multiple (inf s) f h = absurd h
@@ -150,5 +150,7 @@ whole-multiple (fin s zero e) f h = (refl, none-exact e)
 whole-multiple (fin s (suc m) e) f h =
     let x = fin false (suc m) e in
     let p : T (positive (fin false (suc m) e)) = lt→ltb 0 (suc m) (zero-lt-suc m) in
+    let clear : HasValue (fin false (suc m) e) false (unitsOf (fin false (suc m) e)) (2 ^ 149) =
     subst (λ (n : ℕ). HasValue x false n (2 ^ 149)) (sym (own-units x f p))
-    (subst (λ (y : Float). HasValue y false (units (toBits binary32 x)) (2 ^ 149)) (ofBits-toBits binary32 x f) (bits-value (toBits binary32 x) (positive-bits x f p .1)))
+    (subst (λ (y : Float). HasValue y false (units (toBits binary32 x)) (2 ^ 149)) (ofBits-toBits binary32 x f) (bits-value (toBits binary32 x) (positive-bits x f p .1))) in
+    (refl, clear .1)

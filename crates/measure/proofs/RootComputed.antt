@@ -12,7 +12,8 @@ use lib.Ieee.Bits.{ofBits-toBits}
 use lib.Ieee.Exact.{HasValue}
 use lib.Ieee.Positive.{positive, value-pos}
 use Rattle.measure.specs.declared.Measured.{Measured}
-use Rattle.measure.specs.Pattern.{sigOf, expOf, units, RootBits}
+use Rattle.measure.specs.Pattern.{sigOf, expOf, units}
+use Rattle.measure.specs.inner.RootSteps.{RootBits}
 use Rattle.measure.specs.Root.{unitsOf, RootOf}
 use Rattle.measure.specs.RootComputed.{greatest, reaches, rootPattern, rootOf}
 use Rattle.measure.proofs.Squares.{square-le}

@@ -13,7 +13,8 @@ use lib.Ieee.Positive.{positive, positive-of-value}
 use Rattle.measure.specs.declared.Measured.{Measured}
 use Rattle.measure.specs.declared.Measured.the-variants.{Known, Refused}
 use Rattle.refusal.specs.declared.Refusal.the-variants.{OutOfRange}
-use Rattle.measure.specs.Pattern.{expOf, units, RootBits}
+use Rattle.measure.specs.Pattern.{expOf, units}
+use Rattle.measure.specs.inner.RootSteps.{RootBits}
 use Rattle.measure.specs.Root.{NextBelow, NextAbove, IsRoot, RootOf}
 use Rattle.measure.proofs.Ranges.{eq-some, eq-none}
 use Rattle.measure.proofs.Squares.{square-le}

@@ -1,6 +1,7 @@
--- Comparing two finite floats is comparing their values as whole numbers. Assumes nothing.
+-- Comparing two finite floats is comparing whole numbers: their sizes over any common denominator, counted from below both (`lt-counted`).
+-- For f32s these are their values (`lt-value`). Assumes nothing.
 use mathlib.Core.Path.{_≡_, refl, sym, ap, _∙_, subst}
-use mathlib.Core.Bool.{Bool, true, false}
+use mathlib.Core.Bool.{Bool, true, false, cond}
 use Prim.Native.Nat.{ℕ, _+_, _-_, _*_, _^_, _≤_, _<_}
 use native.Mathlib.Nat.{mul-assoc, mul-comm, mul-right-comm, mul-pos, mul-le-mul-right, le-trans, lt-irrefl, lt-of-le-of-lt, lt-of-not-le, le-of-eq, zero-mul, eq-of-mul-eq-mul-right, le-of-mul-le-mul-right}
 use native.Mathlib.Omega.{arith}
@@ -9,11 +10,13 @@ use lib.Dec.{T, ltb}
 use lib.Pow.{pow-pos}
 use lib.IntN.{ℤ}
 use lib.Ieee.{Float, nan, inf, fin, binary32, fits, lt, up, down}
+use lib.Ieee.Exact.{HasValue}
 use lib.Ieee.Fits.{down-pos}
 use lib.Ieee.Scale.{finite}
+use Rattle.measure.specs.Float.{signOf}
 use Rattle.measure.specs.Root.{unitsOf, float}
 use Rattle.measure.specs.Pattern.{units}
-use Rattle.measure.specs.Value.{valueOf}
+use Rattle.measure.specs.Value.{wholeOf}
 use Rattle.measure.proofs.PatternFloats.{whole-multiple}
 use Rattle.measure.proofs.Patterns.{units-mono}
 use Rattle.measure.proofs.Neighbours.{infinity, multiple-pattern}
@@ -64,37 +67,25 @@ across K u v hu = same-lt (K - u) (K + v) 0 (u + v) (λ h. omega arith) (λ h. o
 back : (K u v : ℕ) → ltb (K + u) (K - v) ≡ false
 back K u v = le-ltb (K + u) (K - v) (omega arith)
 
--- ---- floats
+-- ---- floats that are u / p and v / p in size
 
-most-units : (x : Float) → T (fits binary32 x) → T (finite x) → unitsOf x ≤ 2 ^ 277
-most-units x f h = go (multiple-pattern (unitsOf x) (float x f h))
-  where
-    go : (c : ℕ) × (c ≤ 2139095040) × (unitsOf x ≡ units c) → unitsOf x ≤ 2 ^ 277
-    go (c, l, e) = rw e (le-trans (units-mono c 2139095040 l) (le-of-eq (sym infinity)))
-
-module _ (s : Bool) (m : ℕ) (e : ℤ) (t : Bool) (n : ℕ) (d : ℤ) (f : T (fits binary32 (fin s m e))) (g : T (fits binary32 (fin t n d))) where
-  own : m * up e * 2 ^ 149 ≡ unitsOf (fin s m e) * down e
-  own = whole-multiple (fin s m e) f tt .1
-
-  other : n * up d * 2 ^ 149 ≡ unitsOf (fin t n d) * down d
-  other = whole-multiple (fin t n d) g tt .1
-
+module _ (m : ℕ) (e : ℤ) (n : ℕ) (d : ℤ) (u v p : ℕ) (pp : 0 < p) (own : m * up e * p ≡ u * down e) (other : n * up d * p ≡ v * down d) where
   -- the order of two magnitudes is that of their units
-  magnitudes : ltb (m * up e * down d) (n * up d * down e) ≡ ltb (unitsOf (fin s m e)) (unitsOf (fin t n d))
+  magnitudes : ltb (m * up e * down d) (n * up d * down e) ≡ ltb u v
   magnitudes =
       same-lt _ _ _ _
-      (λ l. le-units (n * up d) (m * up e) (down d) (down e) _ _ (2 ^ 149) (down-pos d) (down-pos e) (pow-pos 149) other own l)
-      (λ l. units-le (n * up d) (m * up e) (down d) (down e) _ _ (2 ^ 149) (down-pos d) (down-pos e) (pow-pos 149) other own l)
+      (λ l. le-units (n * up d) (m * up e) (down d) (down e) _ _ p (down-pos d) (down-pos e) pp other own l)
+      (λ l. units-le (n * up d) (m * up e) (down d) (down e) _ _ p (down-pos d) (down-pos e) pp other own l)
 
   -- and one of them is above 0 exactly where one of the units is
-  either : ltb 0 (m * up e * down d + n * up d * down e) ≡ ltb 0 (unitsOf (fin s m e) + unitsOf (fin t n d))
+  either : ltb 0 (m * up e * down d + n * up d * down e) ≡ ltb 0 (u + v)
   either =
       let w = mul-pos (down-pos e) (down-pos d) in
-      let l = left (m * up e) (n * up d) (down e) (down d) _ _ (2 ^ 149) (down-pos e) (down-pos d) (pow-pos 149) own other in
-      let r = right (m * up e) (n * up d) (down e) (down d) _ _ (2 ^ 149) (down-pos e) (down-pos d) (pow-pos 149) own other in
+      let l = left (m * up e) (n * up d) (down e) (down d) _ _ p (down-pos e) (down-pos d) pp own other in
+      let r = right (m * up e) (n * up d) (down e) (down d) _ _ p (down-pos e) (down-pos d) pp own other in
       same-lt 0 _ 0 _
-      (λ h. both-none _ _ (none-units (m * up e) (down d) _ _ (2 ^ 149) w (pow-pos 149) l (first-none _ _ h)) (none-units (n * up d) (down e) _ _ (2 ^ 149) w (pow-pos 149) r (second-none _ _ h)))
-      (λ h. both-none _ _ (units-none (m * up e) (down d) _ _ (2 ^ 149) w (pow-pos 149) l (first-none _ _ h)) (units-none (n * up d) (down e) _ _ (2 ^ 149) w (pow-pos 149) r (second-none _ _ h)))
+      (λ h. both-none _ _ (none-units (m * up e) (down d) _ _ p w pp l (first-none _ _ h)) (none-units (n * up d) (down e) _ _ p w pp r (second-none _ _ h)))
+      (λ h. both-none _ _ (units-none (m * up e) (down d) _ _ p w pp l (first-none _ _ h)) (units-none (n * up d) (down e) _ _ p w pp r (second-none _ _ h)))
     where
       first-none : (a b : ℕ) → a + b ≤ 0 → a ≡ 0
       first-none a b h = omega arith
@@ -105,13 +96,31 @@ module _ (s : Bool) (m : ℕ) (e : ℤ) (t : Bool) (n : ℕ) (d : ℤ) (f : T (f
       both-none : (a b : ℕ) → a ≡ 0 → b ≡ 0 → a + b ≤ 0
       both-none a b p q = omega arith
 
-pub lt-value : (x y : Float) → T (fits binary32 x) → T (finite x) → T (fits binary32 y) → T (finite y) → lt x y ≡ ltb (valueOf x) (valueOf y)
-unfolding lt valueOf
-lt-value nan y f h g k = absurd h
-lt-value (inf s) y f h g k = absurd h
-lt-value (fin s m e) nan f h g k = absurd k
-lt-value (fin s m e) (inf t) f h g k = absurd k
-lt-value (fin false m e) (fin false n d) f h g k = magnitudes false m e false n d f g ∙ sym (both-above (2 ^ 277) (unitsOf (fin false m e)) (unitsOf (fin false n d)))
-lt-value (fin false m e) (fin true n d) f h g k = sym (back (2 ^ 277) (unitsOf (fin false m e)) (unitsOf (fin true n d)))
-lt-value (fin true m e) (fin false n d) f h g k = either true m e false n d f g ∙ sym (across (2 ^ 277) _ _ (most-units (fin true m e) f h))
-lt-value (fin true m e) (fin true n d) f h g k = magnitudes true n d true m e g f ∙ sym (both-below (2 ^ 277) _ _ (most-units (fin true m e) f h) (most-units (fin true n d) g k))
+-- a size with its sign, counted from -most
+abbrev pub counted : ℕ → Bool → ℕ → ℕ
+counted most sign u = cond sign (most - u) (most + u)
+
+pub lt-counted : (x y : Float) (u v p most : ℕ) → 0 < p → HasValue x (signOf x) u p → HasValue y (signOf y) v p → u ≤ most → v ≤ most
+    → lt x y ≡ ltb (counted most (signOf x) u) (counted most (signOf y) v)
+unfolding lt
+lt-counted nan y u v p K pp a b hu hv = absurd a
+lt-counted (inf s) y u v p K pp a b hu hv = absurd a
+lt-counted (fin s m e) nan u v p K pp a b hu hv = absurd b
+lt-counted (fin s m e) (inf t) u v p K pp a b hu hv = absurd b
+lt-counted (fin false m e) (fin false n d) u v p K pp a b hu hv = magnitudes m e n d u v p pp (a .1) (b .1) ∙ sym (both-above K u v)
+lt-counted (fin false m e) (fin true n d) u v p K pp a b hu hv = sym (back K u v)
+lt-counted (fin true m e) (fin false n d) u v p K pp a b hu hv = either m e n d u v p pp (a .1) (b .1) ∙ sym (across K u v hu)
+lt-counted (fin true m e) (fin true n d) u v p K pp a b hu hv = magnitudes n d m e v u p pp (b .1) (a .1) ∙ sym (both-below K u v hu hv)
+
+-- ---- f32s
+
+most-units : (x : Float) → T (fits binary32 x) → T (finite x) → unitsOf x ≤ 2 ^ 277
+most-units x f h = go (multiple-pattern (unitsOf x) (float x f h))
+  where
+    go : (c : ℕ) × (c ≤ 2139095040) × (unitsOf x ≡ units c) → unitsOf x ≤ 2 ^ 277
+    go (c, l, e) = rw e (le-trans (units-mono c 2139095040 l) (le-of-eq (sym infinity)))
+
+pub lt-value : (x y : Float) → T (fits binary32 x) → T (finite x) → T (fits binary32 y) → T (finite y) → lt x y ≡ ltb (wholeOf x) (wholeOf y)
+unfolding wholeOf
+lt-value x y f h g k =
+    lt-counted x y (unitsOf x) (unitsOf y) (2 ^ 149) (2 ^ 277) (pow-pos 149) (whole-multiple x f h) (whole-multiple y g k) (most-units x f h) (most-units y g k)

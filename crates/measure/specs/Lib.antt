@@ -3,9 +3,11 @@ pub mod Position
 pub mod Parameter
 pub mod Angle
 pub mod Distance
+pub mod Answers
 pub mod Root
 pub mod Pattern
 pub mod RootComputed
 pub mod Value
 pub mod Length
 pub mod Worked
+pub mod inner

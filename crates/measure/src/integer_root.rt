@@ -1,6 +1,6 @@
 // The integer root of a number of 47 or 48 bits, and the whole number nearest to its root.
 ghost use Prim.Native.Nat.{_+_, _*_, _^_, _≤_, _<_};
-ghost use Rattle.measure.specs.Pattern.{IntegerRoot, Near};
+ghost use Rattle.measure.specs.inner.RootSteps.{IntegerRoot, NearestRoot};
 
 // Newton's iteration; from `start` two turns are usual.
 fn isqrt(n: u64) -> u64
@@ -29,7 +29,7 @@ fn start(n: u64) -> u64
 // The whole number nearest to the root of n.
 pub(crate) fn nearest_root(n: u64) -> u64
     requires { ⌜ (2 ^ 46 ≤ n) × (n < 2 ^ 48) ⌝ }
-    ensures { λ r. ⌜ Near n r ⌝ }
+    ensures { λ r. ⌜ NearestRoot n r ⌝ }
 {
     let q = isqrt(n);
     if q < n - q * q { q + 1 } else { q }

@@ -1,7 +1,8 @@
 // The root of a float by its pattern: the significand moved to 32 bits, an integer root, and the pattern of the answer.
 ghost use mathlib.Core.Path.{_≡_};
 ghost use Prim.Native.Nat.{_*_, _^_, _≤_, _<_};
-ghost use Rattle.measure.specs.Pattern.{sigOf, expOf, units, RootBits};
+ghost use Rattle.measure.specs.Pattern.{sigOf, expOf, units};
+ghost use Rattle.measure.specs.inner.RootSteps.{RootBits};
 use crate::integer_root;
 
 // How far the significand has to move for its highest bit to be bit 31.

@@ -1,6 +1,6 @@
--- What a search for "some number below n" knows: nothing so far, or a hit. Assumes nothing.
+-- What a search for "some number below n" knows: nothing so far, or a hit; and what its answer says of each number. Assumes nothing.
 use mathlib.Core.Path.{_≡_, refl, sym, ap, _∙_}
-use mathlib.Core.Bool.{Bool, true, false, _||_}
+use mathlib.Core.Bool.{Bool, true, false, _||_, false≢true}
 use Prim.Native.Nat.{ℕ, zero, suc, _+_, _<_}
 use native.Mathlib.Nat.{not-suc-le-zero}
 use native.Mathlib.Numerals.{add-one}
@@ -30,3 +30,17 @@ some-hit (suc n) i p h e = go (eqb i n) refl (λ l. some-hit n i p l e)
     go : (t : Bool) → eqb i n ≡ t → (i < n → some n p ≡ true) → some (suc n) p ≡ true
     go true q ih = let s : i ≡ n = eqb-true i n q in rw (ap p (sym s) ∙ e) (or-true (some n p))
     go false q ih = let s : i ≡ n → ⊥ = eqb-false i n q in rw (ih (omega (arith, s)))
+
+-- ---- no is said where none has the property
+
+pub some-clear : (n : ℕ) (p : ℕ → Bool) → ((j : ℕ) → j < n → p j ≡ false) → some n p ≡ false
+unfolding some
+some-clear zero p h = refl
+some-clear (suc n) p h = rw (some-clear n p (λ j l. h j (omega arith)), h n (omega arith))
+
+pub some-missed : (n : ℕ) (p : ℕ → Bool) → some n p ≡ false → (j : ℕ) → j < n → p j ≡ false
+some-missed n p e j l = go (p j) refl
+  where
+    go : (b : Bool) → p j ≡ b → p j ≡ false
+    go true f = absurd (false≢true (sym e ∙ some-hit n j p l f))
+    go false f = f

@@ -8,7 +8,8 @@ use Rattle.measure.specs.declared.Measured.the-variants.{Known}
 use Rattle.measure.specs.Angle.{angleOf}
 use Rattle.measure.proofs.Positions.{difference-in-reach, angle-known}
 use Rattle.quads.specs.declared.Quad.{Quad}
-use Rattle.quads.specs.Order.{cornerAt, middleOf, angleSeen, angleFrom, Standing, Exist}
+use Rattle.quads.specs.Order.{cornerAt, middleOf, angleSeen, angleFrom}
+use Rattle.quads.specs.inner.Ordering.{Standing, Exist}
 use Rattle.quads.proofs.Sorted.{corner-in, middle-x, middle-y}
 
 pub never-refused : (xs ys : List Float) → Standing xs ys → (q : Quad) → Exist (length xs) q → (k : ℕ)

@@ -23,8 +23,10 @@ use Rattle.quads.specs.declared.Pairing.the-variants.{Alone, Four}
 use Rattle.quads.specs.declared.Quad.{Quad}
 use Rattle.quads.specs.Diagonal.{onlyAt}
 use Rattle.quads.specs.Union.{cornersOf, isIn}
-use Rattle.quads.specs.Order.{cornerAt, angleKey, Exist, sortedOf, turnedFrom, orderOf}
-use Rattle.quads.specs.Merge.{Mesh, Input, Sound, triangleCount, pairedAt, madeBy, quadsTo, mergedOf}
+use Rattle.quads.specs.Order.{cornerAt, angleKey, sortedOf, turnedFrom, orderOf}
+use Rattle.quads.specs.inner.Ordering.{Exist}
+use Rattle.quads.specs.Merge.{Mesh, Input, triangleCount, pairedAt, madeBy, quadsTo, mergedOf}
+use Rattle.quads.specs.inner.Merging.{Sound}
 use Rattle.quads.proofs.Seen.{only-own}
 use Rattle.quads.proofs.Sorted.{corner-in, sorted-at, turned-at, sorted-in}
 use Rattle.quads.proofs.Pairs.{Pair, paired, Corners, four-corners, four-exist}

@@ -5,6 +5,8 @@ pub mod Sorted
 pub mod Pairs
 pub mod Made
 pub mod Outcomes
+pub mod Ahead
+pub mod Leading
 pub mod Ordered
 pub mod Sixth
 pub mod Angles

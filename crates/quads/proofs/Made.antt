@@ -5,7 +5,6 @@ use mathlib.Core.List.{List, [], _∷_, _++_, append-nil, append-assoc}
 use Prim.Native.Nat.{ℕ, zero, suc, _+_, _-_, _*_, _≤_, _<_}
 use native.Mathlib.Nat.{add-zero, add-suc}
 use native.Mathlib.Numerals.{add-one}
-use native.Mathlib.Decide.{decLt}
 use native.Mathlib.Omega.{arith}
 use lib.ListN.{length, getD, take, drop, length-append, length-drop}
 use lib.Seq.{take-at, drop-append-add, drop-drop, getD-append-add, getD-drop}
@@ -13,7 +12,8 @@ use Rattle.words.specs.Sorting.{one}
 use Rattle.quads.specs.declared.Pairing.{Pairing}
 use Rattle.quads.specs.declared.Pairing.the-variants.{Alone, Four}
 use Rattle.quads.specs.declared.Quad.{Quad}
-use Rattle.quads.specs.Merge.{Mesh, Input, isFour, pairedAt, madeBy, quadsTo, countTo, NextPair}
+use Rattle.quads.specs.Merge.{Mesh, Input, pairedAt, madeBy, quadsTo}
+use Rattle.quads.specs.inner.Merging.{isFour, countTo}
 use Rattle.quads.specs.Call.{wordsOf}
 
 pub made-more : (i : Input) (t : ℕ) → quadsTo i (t + 1) ≡ quadsTo i t ++ madeBy i (pairedAt (i .mesh) t)
@@ -133,16 +133,3 @@ held-behind qs before now held k h =
 
 pub held-by : (qs rs : List Quad) (before now : List ℕ) → qs ≡ rs → Held rs before now → Held qs before now
 held-by qs rs before now e h = subst (λ (l : List Quad). Held l before now) (sym e) h
-
--- ---- `NextPair` has one answer: of two neither is the lower, which would make a quad and be passed by
-
-next-not-lower : (m : Mesh) (t r s : ℕ) → NextPair m t r → NextPair m t s → r < s → ⊥
-next-not-lower m t r s p q h = false≢true (sym (q .clear r (p .past) h) ∙ p .hit (omega (arith, h, q .reach)))
-
-pub one-next : (m : Mesh) (t r s : ℕ) → NextPair m t r → NextPair m t s → r ≡ s
-one-next m t r s p q = go (decLt r s) (decLt s r)
-  where
-    go : Dec (r < s) → Dec (s < r) → r ≡ s
-    go (yes a) b = absurd (next-not-lower m t r s p q a)
-    go (no a) (yes b) = absurd (next-not-lower m t s r q p b)
-    go (no a) (no b) = omega arith

@@ -16,8 +16,9 @@ use Rattle.quads.specs.declared.Pairing.the-variants.{Alone, Four}
 use Rattle.quads.specs.declared.Quad.{Quad}
 use Rattle.quads.specs.Diagonal.{onlyAt, isAt}
 use Rattle.quads.specs.Union.{cornersOf, isIn, newTo, unionOf, fourFrom}
-use Rattle.quads.specs.Order.{Exist}
-use Rattle.quads.specs.Merge.{Mesh, Input, Settled, Sound, pairedBy, pairedAcross, pairedAt}
+use Rattle.quads.specs.inner.Ordering.{Exist}
+use Rattle.quads.specs.Merge.{Mesh, Input, pairedBy, pairedAcross, pairedAt}
+use Rattle.quads.specs.inner.Merging.{MeshSound, Sound}
 use Rattle.quads.proofs.Seen.{only-own}
 
 alone-four : (q : Quad) → Alone ≡ Four q → ⊥
@@ -68,7 +69,7 @@ paired m t q e = go (onlyAt (m .classes) t) refl e
 
 -- ---- the twin's triangle is in the list
 
-pub other-in : (m : Mesh) → Settled m → (t : ℕ) (q : Quad) → 3 * t + 2 < length (m .triangles) → (p : Pair m t q) → 3 * triangleOf (getD (m .twins) (p .side) 0) + 2 < length (m .triangles)
+pub other-in : (m : Mesh) → MeshSound m → (t : ℕ) (q : Quad) → 3 * t + 2 < length (m .triangles) → (p : Pair m t q) → 3 * triangleOf (getD (m .twins) (p .side) 0) + 2 < length (m .triangles)
 other-in m s t q h p =
     let own = only-own (m .classes) t (p .side) (p .own) in
     let inside = s .inside (p .side) (omega arith) (p .twin) in

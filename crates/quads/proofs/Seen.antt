@@ -12,7 +12,8 @@ use Rattle.classify.specs.declared.Class.{Class}
 use Rattle.classify.specs.declared.Class.the-variants.{Spurious, Grid, Diagonal}
 use Rattle.quads.specs.declared.Found.{Found}
 use Rattle.quads.specs.declared.Found.the-variants.{Nowhere, At}
-use Rattle.quads.specs.Diagonal.{isGrid, isDiagonal, onlyBy, onlyAt, sideClass, stepOf, seenOf}
+use Rattle.quads.specs.Diagonal.{isGrid, isDiagonal, onlyBy, onlyAt, sideClass}
+use Rattle.quads.specs.inner.Search.{stepOf, seenOf}
 
 -- one side more
 pub seen-more : (classes : List ℕ) (base k : ℕ) → seenOf classes base (k + 1) ≡ stepOf (seenOf classes base k) k (sideClass classes (base + k))

@@ -18,7 +18,8 @@ use Rattle.quads.specs.declared.Pairing.{Pairing}
 use Rattle.quads.specs.declared.Pairing.the-variants.{Alone, Four}
 use Rattle.quads.specs.declared.Quad.{Quad}
 use Rattle.quads.specs.Diagonal.{onlyAt}
-use Rattle.quads.specs.Merge.{Mesh, Input, Sound, triangleCount, isFour, pairedAt, mergedOf, countTo}
+use Rattle.quads.specs.Merge.{Mesh, Input, triangleCount, pairedAt, mergedOf}
+use Rattle.quads.specs.inner.Merging.{Sound, isFour, countTo}
 use Rattle.quads.proofs.Seen.{only-own}
 use Rattle.quads.proofs.Pairs.{Pair, paired, other-in}
 use Rattle.quads.proofs.Made.{count-is}

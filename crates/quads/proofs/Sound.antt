@@ -12,7 +12,8 @@ use Rattle.mesh.specs.Positions.{positionsRow}
 use Rattle.mesh.specs.Cells.{cornersRow, classesRow, twiceRow}
 use Rattle.mesh.specs.Twins.{twinOffends, twinsRow}
 use Rattle.mesh.proofs.Open.{paired-open, limit-open, positions-open, corners-open, twice-open, twins-open, twin-sound}
-use Rattle.quads.specs.Merge.{Input, Sound}
+use Rattle.quads.specs.Merge.{Input}
+use Rattle.quads.specs.inner.Merging.{Sound}
 use Rattle.quads.specs.Call.{lengthsGate, valuesGate, gateOf}
 
 pub record Paired (x y triangles twins classes : ℕ) : Type 0 where

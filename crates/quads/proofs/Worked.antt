@@ -9,12 +9,12 @@ use Rattle.measure.specs.Float.{bits}
 use Rattle.measure.specs.Angle.{seriesOf, partOf, ratioOf, baseOf, octantOf, acrossOf, belowOf, angleRule}
 use Rattle.measure.specs.Position.{centroidOf}
 use Rattle.measure.specs.Root.{unitsOf}
-use Rattle.measure.specs.Value.{valueOf}
+use Rattle.measure.specs.Value.{wholeOf}
 use Rattle.mesh.specs.Cells.{some}
 use Rattle.mesh.specs.HalfEdge.{noTwin}
 use Rattle.quads.specs.Diagonal.{onlyBy, onlyAt}
 use Rattle.quads.specs.Union.{isIn, newTo, unionOf, fourFrom}
-use Rattle.quads.specs.Order.{middleOf, angleSeen, ahead, byAngle, sortedOf, leads, startOf, turnedFrom, orderOf}
+use Rattle.quads.specs.Order.{middleOf, angleSeen, ahead, byAngle, sortedOf, leads, leaderOf, turnedFrom, orderOf}
 use Rattle.quads.specs.Merge.{Input, pairedBy, pairedAcross, pairedAt, quadsTo, mergedOf}
 use Rattle.quads.specs.Call.{wordsOf}
 
@@ -28,12 +28,12 @@ frame height classes =
     }
 
 pub of-the-frame : wordsOf (mergedOf (frame (bits 0x41200000) (1 ∷ 1 ∷ 2 ∷ 2 ∷ 1 ∷ 1 ∷ []))) ≡ 0 ∷ 1 ∷ 2 ∷ 3 ∷ []
-unfolding frame neg ofBits round add sub mul div lt eq le firstOf one equal below rank placed seriesOf partOf ratioOf baseOf octantOf acrossOf belowOf angleRule centroidOf unitsOf valueOf some onlyBy onlyAt isIn newTo unionOf fourFrom middleOf angleSeen ahead byAngle sortedOf leads startOf turnedFrom orderOf pairedBy pairedAcross pairedAt quadsTo mergedOf wordsOf
+unfolding frame neg ofBits round add sub mul div lt eq le firstOf one equal below rank placed seriesOf partOf ratioOf baseOf octantOf acrossOf belowOf angleRule centroidOf unitsOf wholeOf some onlyBy onlyAt isIn newTo unionOf fourFrom middleOf angleSeen ahead byAngle sortedOf leads leaderOf turnedFrom orderOf pairedBy pairedAcross pairedAt quadsTo mergedOf wordsOf
 of-the-frame = refl
 
 -- corners 0 and 3 at one position have equal angles and tie in full: they keep their order, and the earlier is first
 pub full-tie : wordsOf (mergedOf (frame (bits 0) (1 ∷ 1 ∷ 2 ∷ 2 ∷ 1 ∷ 1 ∷ []))) ≡ 0 ∷ 3 ∷ 1 ∷ 2 ∷ []
-unfolding frame neg ofBits round add sub mul div lt eq le firstOf one equal below rank placed seriesOf partOf ratioOf baseOf octantOf acrossOf belowOf angleRule centroidOf unitsOf valueOf some onlyBy onlyAt isIn newTo unionOf fourFrom middleOf angleSeen ahead byAngle sortedOf leads startOf turnedFrom orderOf pairedBy pairedAcross pairedAt quadsTo mergedOf wordsOf
+unfolding frame neg ofBits round add sub mul div lt eq le firstOf one equal below rank placed seriesOf partOf ratioOf baseOf octantOf acrossOf belowOf angleRule centroidOf unitsOf wholeOf some onlyBy onlyAt isIn newTo unionOf fourFrom middleOf angleSeen ahead byAngle sortedOf leads leaderOf turnedFrom orderOf pairedBy pairedAcross pairedAt quadsTo mergedOf wordsOf
 full-tie = refl
 
 -- the twin has a class of its own: Grid there is no pair

@@ -6,6 +6,7 @@ use lib.ListN.{length, drop}
 use Rattle.refusal.specs.declared.Gate.{Gate}
 use Rattle.refusal.specs.declared.Gate.the-variants.{Open, Shut}
 use Rattle.refusal.specs.declared.Refusal.the-variants.{RecordsShort}
+use Rattle.refusal.specs.InNumbers.{InNumbers, gives, refuses}
 use Rattle.refusal.specs.Rows.{refuseIf, _then_}
 use Rattle.mesh.specs.Lists.{pairedRow, wholeRow, limitRow, mostCorners, mostHalfEdges}
 use Rattle.mesh.specs.Positions.{positionsRow}
@@ -41,6 +42,11 @@ roomRow words wanted = refuseIf (ltb (words / 4) wanted) (RecordsShort wanted)
 unfoldable pub wordsOf : List Quad → List ℕ
 wordsOf [] = []
 wordsOf (q ∷ qs) = q .a ∷ q .b ∷ q .c ∷ q .d ∷ wordsOf qs
+
+-- the answer in 01's numbers: how many quads there are
+abbrev pub mergedTold : Merged → InNumbers ℕ
+mergedTold (Done count) = gives count
+mergedTold (Refused why) = refuses 0 why
 
 -- the answer, and the quad list after the call
 pub record Outcome : Type 0 where

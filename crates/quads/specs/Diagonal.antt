@@ -1,7 +1,7 @@
 -- Document 01, "Quads": a triangle's only diagonal, its one Diagonal side where the other two are Grid.
 use mathlib.Core.Bool.{Bool, true, false, cond, _&&_}
 use mathlib.Core.List.{List}
-use Prim.Native.Nat.{ℕ, zero, suc, _+_, _*_}
+use Prim.Native.Nat.{ℕ, _+_, _*_}
 use lib.Dec.{eqb}
 use lib.ListN.{getD}
 use Rattle.classify.specs.declared.Class.{Class}
@@ -38,14 +38,3 @@ onlyAt classes t = onlyBy (3 * t) (sideClass classes (3 * t)) (sideClass classes
 abbrev pub isAt : Found → ℕ → Bool
 isAt Nowhere e = false
 isAt (At f) e = eqb f e
-
--- ---- what the search has seen after k sides: 3 is nothing yet, 4 that it stops, at a Spurious side or a second Diagonal
-
-unfoldable pub stepOf : ℕ → ℕ → Class → ℕ
-stepOf seen k Spurious = 4
-stepOf seen k Grid = seen
-stepOf seen k Diagonal = cond (eqb seen 3) k 4
-
-unfoldable pub seenOf : List ℕ → ℕ → ℕ → ℕ
-seenOf classes base zero = 3
-seenOf classes base (suc k) = stepOf (seenOf classes base k) k (sideClass classes (base + k))

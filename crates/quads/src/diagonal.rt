@@ -2,7 +2,8 @@
 ghost use mathlib.Core.Path.{_≡_};
 ghost use Prim.Native.Nat.{_+_, _*_, _≤_};
 ghost use lib.ListN.{length};
-ghost use Rattle.quads.specs.Diagonal.{onlyAt, isAt, stepOf, seenOf};
+ghost use Rattle.quads.specs.Diagonal.{onlyAt, isAt};
+ghost use Rattle.quads.specs.inner.Search.{stepOf, seenOf};
 use crate::Found;
 use classify::Class;
 use classify::inner::class_from;

@@ -3,6 +3,7 @@ ghost use mathlib.Core.Path.{_≡_};
 ghost use Prim.Native.Nat.{_%_, _≤_};
 ghost use lib.ListN.{length};
 ghost use Rattle.mesh.specs.Lists.{mostCorners, mostHalfEdges};
+ghost use Rattle.quads.specs.Merge.{given};
 ghost use Rattle.quads.specs.Call.{lengthsGate, valuesGate, gateOf};
 use mesh::inner::cells::classes_row;
 use mesh::inner::cells::corners_row;
@@ -35,7 +36,7 @@ fn lengths_gate(x: usize, y: usize, triangles: usize, twins: usize, classes: usi
 // Rows 4 to 7, for lists that rows 1 and 2 let through.
 fn values_gate(x: &[f32], y: &[f32], triangles: &[u32], twins: &[u32], classes: &[u32]) -> Gate
     requires { ⌜ (length (now y) ≡ length (now x)) × (length (now x) ≤ mostCorners) × (length (now triangles) ≤ mostHalfEdges) × (length (now triangles) % 3 ≡ 0) × (length (now twins) ≡ length (now triangles)) × (length (now classes) ≡ length (now triangles)) ⌝ }
-    ensures { λ r. ⌜ r ≡ valuesGate (record { xs = now (x .entry); ys = now (y .entry); mesh = record { triangles = now (triangles .entry); twins = now (twins .entry); classes = now (classes .entry) } }) ⌝ }
+    ensures { λ r. ⌜ r ≡ valuesGate (given (x .entry) (y .entry) (triangles .entry) (twins .entry) (classes .entry)) ⌝ }
 {
     let edges = in_order(twice_row(triangles, 3), twins_row(triangles, twins));
     let named = in_order(
@@ -46,7 +47,7 @@ fn values_gate(x: &[f32], y: &[f32], triangles: &[u32], twins: &[u32], classes: 
 }
 
 pub(crate) fn judge(x: &[f32], y: &[f32], triangles: &[u32], twins: &[u32], classes: &[u32]) -> Gate
-    ensures { λ r. ⌜ r ≡ gateOf (record { xs = now (x .entry); ys = now (y .entry); mesh = record { triangles = now (triangles .entry); twins = now (twins .entry); classes = now (classes .entry) } }) ⌝ }
+    ensures { λ r. ⌜ r ≡ gateOf (given (x .entry) (y .entry) (triangles .entry) (twins .entry) (classes .entry)) ⌝ }
 {
     let lengths = lengths_gate(
         x.len(),

@@ -4,8 +4,8 @@ ghost use mathlib.Core.Bool.{true};
 ghost use mathlib.Core.List.{[], _∷_, _++_};
 ghost use Prim.Native.Nat.{_+_, _*_, _≤_, _<_};
 ghost use lib.ListN.{length, take, drop};
-ghost use Rattle.quads.specs.Call.{wordsOf};
-ghost use Rattle.quads.specs.Merge.{Settled, Sound, isFour, pairedAt, madeBy, mergedOf, countTo, triangleCount};
+ghost use Rattle.quads.specs.inner.Merging.{MeshSound, Sound, isFour, countTo, Writes};
+ghost use Rattle.quads.specs.Merge.{pairedAt, madeBy, mergedOf, triangleCount, given, meshOf};
 use crate::Pairing;
 use crate::Quad;
 use crate::order::order_corners;
@@ -14,8 +14,8 @@ use crate::pair::pair_at;
 
 // How many quads the mesh makes. `merge_triangle_pairs` shows what is asked by its rows.
 pub(crate) fn count_quads(triangles: &[u32], twins: &[u32], classes: &[u32]) -> usize
-    requires { ⌜ Settled (record { triangles = now triangles; twins = now twins; classes = now classes }) ⌝ }
-    ensures { λ r. ⌜ r ≡ countTo (record { triangles = now (triangles .entry); twins = now (twins .entry); classes = now (classes .entry) }) (triangleCount (record { triangles = now (triangles .entry); twins = now (twins .entry); classes = now (classes .entry) })) ⌝ }
+    requires { ⌜ MeshSound (meshOf triangles twins classes) ⌝ }
+    ensures { λ r. ⌜ r ≡ countTo (meshOf (triangles .entry) (twins .entry) (classes .entry)) (triangleCount (meshOf (triangles .entry) (twins .entry) (classes .entry))) ⌝ }
 {
     let count = triangles.len() / 3;
     let mut made = 0;
@@ -40,8 +40,8 @@ fn quad_of(
     classes: &[u32],
     t: usize,
 ) -> Quad
-    requires { ⌜ Sound (record { xs = now x; ys = now y; mesh = record { triangles = now triangles; twins = now twins; classes = now classes } }) × (3 * t + 2 < length (now triangles)) × (isFour (pairedAt (record { triangles = now triangles; twins = now twins; classes = now classes }) t) ≡ true) ⌝ }
-    ensures { λ r. ⌜ r ∷ [] ≡ madeBy (record { xs = now (x .entry); ys = now (y .entry); mesh = record { triangles = now (triangles .entry); twins = now (twins .entry); classes = now (classes .entry) } }) (pairedAt (record { triangles = now (triangles .entry); twins = now (twins .entry); classes = now (classes .entry) }) t) ⌝ }
+    requires { ⌜ Sound (given x y triangles twins classes) × (3 * t + 2 < length (now triangles)) × (isFour (pairedAt (meshOf triangles twins classes) t) ≡ true) ⌝ }
+    ensures { λ r. ⌜ r ∷ [] ≡ madeBy (given (x .entry) (y .entry) (triangles .entry) (twins .entry) (classes .entry)) (pairedAt (meshOf (triangles .entry) (twins .entry) (classes .entry)) t) ⌝ }
 {
     let pairing = pair_at(triangles, twins, classes, t);
     match pairing {
@@ -75,8 +75,8 @@ pub fn write_quads(
     classes: &[u32],
     quads: &mut [u32],
 ) -> usize
-    requires { ⌜ Sound (record { xs = now x; ys = now y; mesh = record { triangles = now triangles; twins = now twins; classes = now classes } }) × (4 * length (mergedOf (record { xs = now x; ys = now y; mesh = record { triangles = now triangles; twins = now twins; classes = now classes } })) ≤ length (now quads)) ⌝ }
-    ensures { λ r. ⌜ (r ≡ length (mergedOf (record { xs = now (x .entry); ys = now (y .entry); mesh = record { triangles = now (triangles .entry); twins = now (twins .entry); classes = now (classes .entry) } }))) × (now (quads .exit) ≡ wordsOf (mergedOf (record { xs = now (x .entry); ys = now (y .entry); mesh = record { triangles = now (triangles .entry); twins = now (twins .entry); classes = now (classes .entry) } })) ++ drop (4 * length (mergedOf (record { xs = now (x .entry); ys = now (y .entry); mesh = record { triangles = now (triangles .entry); twins = now (twins .entry); classes = now (classes .entry) } }))) (now (quads .entry))) ⌝ }
+    requires { ⌜ Sound (given x y triangles twins classes) × (4 * length (mergedOf (given x y triangles twins classes)) ≤ length (now quads)) ⌝ }
+    ensures { λ r. ⌜ Writes (given (x .entry) (y .entry) (triangles .entry) (twins .entry) (classes .entry)) (now (quads .entry)) (now (quads .exit)) r ⌝ }
 {
     let count = triangles.len() / 3;
     let mut at = 0;

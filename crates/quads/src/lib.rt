@@ -1,6 +1,7 @@
 // Quads from a mesh: two triangles that meet at the only diagonal of both, their four corners in order.
 // `merge_triangle_pairs` is the call; `inner` has the stage without its checks.
 ghost use mathlib.Core.Path.{_≡_};
+ghost use Rattle.quads.specs.Merge.{given};
 ghost use Rattle.quads.specs.Call.{Outcome, callOf};
 use refusal::Gate;
 use refusal::Refusal;
@@ -55,7 +56,7 @@ pub fn merge_triangle_pairs(
     quads: &mut [u32],
 ) -> Merged
     ensures { λ r. ⌜ _≡_ {A = Outcome} (record { answer = r; quads = now (quads .exit) })
-        (callOf (record { xs = now (x .entry); ys = now (y .entry); mesh = record { triangles = now (triangles .entry); twins = now (twins .entry); classes = now (classes .entry) } }) (now (quads .entry))) ⌝ }
+        (callOf (given (x .entry) (y .entry) (triangles .entry) (twins .entry) (classes .entry)) (now (quads .entry))) ⌝ }
 {
     let gate = gate::judge(x, y, triangles, twins, classes);
     if let Gate::Shut(why) = gate {

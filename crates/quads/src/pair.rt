@@ -4,7 +4,8 @@ ghost use mathlib.Core.List.{_∷_, [], _++_};
 ghost use Prim.Native.Nat.{_+_, _*_, _/_, _≤_, _<_};
 ghost use lib.ListN.{length, getD};
 ghost use Rattle.quads.specs.Union.{isIn, newTo, unionOf, fourFrom};
-ghost use Rattle.quads.specs.Merge.{isFour, Settled, pairedBy, pairedAt, NextPair};
+ghost use Rattle.quads.specs.inner.Merging.{isFour, MeshSound, NextPair};
+ghost use Rattle.quads.specs.Merge.{pairedBy, pairedAt, meshOf};
 use crate::Found;
 use crate::Pairing;
 use crate::Quad;
@@ -79,8 +80,8 @@ fn union_of(triangles: &[u32], t: usize, u: usize) -> Pairing
 
 // t's pairing across half-edge e, its only diagonal.
 fn pair_across(triangles: &[u32], twins: &[u32], classes: &[u32], t: usize, e: usize) -> Pairing
-    requires { ⌜ Settled (record { triangles = now triangles; twins = now twins; classes = now classes }) × (3 * t + 2 < length (now triangles)) × (3 * t ≤ e) × (e < 3 * t + 3) ⌝ }
-    ensures { λ r. ⌜ r ≡ pairedBy (record { triangles = now (triangles .entry); twins = now (twins .entry); classes = now (classes .entry) }) t (getD (now (twins .entry)) e 0) ⌝ }
+    requires { ⌜ MeshSound (meshOf triangles twins classes) × (3 * t + 2 < length (now triangles)) × (3 * t ≤ e) × (e < 3 * t + 3) ⌝ }
+    ensures { λ r. ⌜ r ≡ pairedBy (meshOf (triangles .entry) (twins .entry) (classes .entry)) t (getD (now (twins .entry)) e 0) ⌝ }
 {
     let w = twins[e];
     if w == NO_TWIN {
@@ -99,8 +100,8 @@ fn pair_across(triangles: &[u32], twins: &[u32], classes: &[u32], t: usize, e: u
 
 // Triangle t's pairing with a higher one.
 pub(crate) fn pair_at(triangles: &[u32], twins: &[u32], classes: &[u32], t: usize) -> Pairing
-    requires { ⌜ Settled (record { triangles = now triangles; twins = now twins; classes = now classes }) × (3 * t + 2 < length (now triangles)) ⌝ }
-    ensures { λ r. ⌜ r ≡ pairedAt (record { triangles = now (triangles .entry); twins = now (twins .entry); classes = now (classes .entry) }) t ⌝ }
+    requires { ⌜ MeshSound (meshOf triangles twins classes) × (3 * t + 2 < length (now triangles)) ⌝ }
+    ensures { λ r. ⌜ r ≡ pairedAt (meshOf (triangles .entry) (twins .entry) (classes .entry)) t ⌝ }
 {
     let found = only_diagonal(classes, t);
     let Found::At(e) = found else {
@@ -111,8 +112,8 @@ pub(crate) fn pair_at(triangles: &[u32], twins: &[u32], classes: &[u32], t: usiz
 
 // Whether triangle t makes a quad.
 fn makes_quad(triangles: &[u32], twins: &[u32], classes: &[u32], t: usize) -> bool
-    requires { ⌜ Settled (record { triangles = now triangles; twins = now twins; classes = now classes }) × (3 * t + 2 < length (now triangles)) ⌝ }
-    ensures { λ r. ⌜ r ≡ isFour (pairedAt (record { triangles = now (triangles .entry); twins = now (twins .entry); classes = now (classes .entry) }) t) ⌝ }
+    requires { ⌜ MeshSound (meshOf triangles twins classes) × (3 * t + 2 < length (now triangles)) ⌝ }
+    ensures { λ r. ⌜ r ≡ isFour (pairedAt (meshOf (triangles .entry) (twins .entry) (classes .entry)) t) ⌝ }
 {
     let pairing = pair_at(triangles, twins, classes, t);
     match pairing {
@@ -123,8 +124,8 @@ fn makes_quad(triangles: &[u32], twins: &[u32], classes: &[u32], t: usize) -> bo
 
 // The first triangle from `from` on that makes a quad, or the number of triangles.
 pub(crate) fn next_pair(triangles: &[u32], twins: &[u32], classes: &[u32], from: usize) -> usize
-    requires { ⌜ Settled (record { triangles = now triangles; twins = now twins; classes = now classes }) × (from ≤ length (now triangles) / 3) ⌝ }
-    ensures { λ r. ⌜ NextPair (record { triangles = now (triangles .entry); twins = now (twins .entry); classes = now (classes .entry) }) from r ⌝ }
+    requires { ⌜ MeshSound (meshOf triangles twins classes) × (from ≤ length (now triangles) / 3) ⌝ }
+    ensures { λ r. ⌜ NextPair (meshOf (triangles .entry) (twins .entry) (classes .entry)) from r ⌝ }
 {
     let count = triangles.len() / 3;
     let mut t = from;

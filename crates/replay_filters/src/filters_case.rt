@@ -1,7 +1,7 @@
 // Kind 4: the quads that the filters keep.
 ghost use Prim.Native.Nat.{_≤_};
 ghost use lib.ListN.{length};
-ghost use Rattle.vectors.specs.Lists.{Onward};
+ghost use Rattle.vectors.specs.inner.Lists.{Onward};
 use filter::FilterParams;
 use filter::Filtered;
 use measure::inner::float_of;

@@ -1,7 +1,7 @@
 // Kind 6: the components of a whole frame, and their entries.
 ghost use Prim.Native.Nat.{_≤_};
 ghost use lib.ListN.{length};
-ghost use Rattle.vectors.specs.Lists.{Onward};
+ghost use Rattle.vectors.specs.inner.Lists.{Onward};
 use axis::SpreadRule;
 use classify::EdgeParams;
 use fates::LabelParams;

@@ -1,7 +1,7 @@
 // Kind 5: the components of a list of quads, and their entries.
 ghost use Prim.Native.Nat.{_≤_};
 ghost use lib.ListN.{length};
-ghost use Rattle.vectors.specs.Lists.{Onward};
+ghost use Rattle.vectors.specs.inner.Lists.{Onward};
 use fates::LabelParams;
 use told::inner::lend;
 use told::inner::write_told;

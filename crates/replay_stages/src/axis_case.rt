@@ -1,7 +1,7 @@
 // Kind 1: the axis cache of one corner.
 ghost use Prim.Native.Nat.{_≤_};
 ghost use lib.ListN.{length};
-ghost use Rattle.vectors.specs.Lists.{Onward};
+ghost use Rattle.vectors.specs.inner.Lists.{Onward};
 use axis::AxisCache;
 use axis::Cached;
 use axis::Spread;

@@ -1,7 +1,7 @@
 // Kind 2: the classes of a frame's half-edges.
 ghost use Prim.Native.Nat.{_≤_};
 ghost use lib.ListN.{length};
-ghost use Rattle.vectors.specs.Lists.{Onward};
+ghost use Rattle.vectors.specs.inner.Lists.{Onward};
 use axis::SpreadRule;
 use classify::Classified;
 use classify::EdgeParams;

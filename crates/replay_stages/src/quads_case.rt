@@ -1,7 +1,7 @@
 // Kind 3: the quads of a mesh.
 ghost use Prim.Native.Nat.{_≤_};
 ghost use lib.ListN.{length};
-ghost use Rattle.vectors.specs.Lists.{Onward};
+ghost use Rattle.vectors.specs.inner.Lists.{Onward};
 use quads::Merged;
 use vectors::inner::list::fill;
 use vectors::inner::list::fill_floats;

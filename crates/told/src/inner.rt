@@ -3,10 +3,10 @@
 ghost use mathlib.Core.Path.{_≡_};
 ghost use Prim.Native.Nat.{_≤_};
 ghost use lib.ListN.{length};
-ghost use Rattle.vectors.specs.Lines.{runsOf};
-ghost use Rattle.vectors.specs.Lists.{Front, Onward};
-ghost use Rattle.told.specs.Lending.{Lends};
-ghost use Rattle.told.specs.Answer.{answerLine};
+ghost use Rattle.vectors.specs.inner.Lines.{runsOf};
+ghost use Rattle.vectors.specs.inner.Lists.{Front, Onward};
+ghost use Rattle.told.specs.inner.Lending.{Lends};
+ghost use Rattle.told.specs.inner.Answer.{answerLine};
 use vectors::inner::list::fill;
 use vectors::inner::runs::write_counts;
 use vectors::inner::runs::write_refusal;

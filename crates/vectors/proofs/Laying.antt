@@ -6,7 +6,7 @@ use native.Mathlib.Decide.{ℕ-discrete, decLt}
 use native.Mathlib.Omega.{arith}
 use lib.ListN.{length, getD, set, length-set}
 use lib.Seq.{ext-getD, getD-set-same, getD-set-other}
-use Rattle.vectors.specs.Lists.{Laid}
+use Rattle.vectors.specs.inner.Lists.{Laid}
 
 module _ {A : Type 0} {blank : A} where
   pub laid-none : (xs : List A) (f : ℕ → A) → Laid blank xs xs 0 f

@@ -10,7 +10,7 @@ use lib.ListN.{length, getD, length-append}
 use Rattle.io.specs.Digits.{Fewest}
 use Rattle.digits.specs.Digits.{decimalOf}
 use Rattle.digits.proofs.Places.{places, fewest, one-fewest, word-places}
-use Rattle.vectors.specs.Lines.{countLine, countsLine, beginsAt, runsTo, runsOf, Run}
+use Rattle.vectors.specs.inner.Lines.{countLine, countsLine, beginsAt, runsTo, runsOf, Run}
 
 -- a word takes ten digits at most
 pub few-places : (n k : ℕ) → n < 4294967296 → Fewest 10 1 n k → k ≤ 10

@@ -6,7 +6,7 @@ use Prim.Native.Nat.{ℕ, zero, suc, _-_, _≤_}
 use native.Mathlib.Nat.{mod-zero, mod-eq-of-lt, mod-eq-sub-mod, le-refl}
 use native.Mathlib.Omega.{arith}
 use lib.ListN.{getD}
-use Rattle.vectors.specs.Lists.{overAt, Laid}
+use Rattle.vectors.specs.inner.Lists.{overAt, Laid}
 
 pub over-given : (xs : List ℕ) (given : ℕ) → Laid 0 xs xs given (overAt xs given)
 over-given xs given = record { len = refl; laid = λ k h. ap (λ (j : ℕ). getD xs j 0) (sym (mod-eq-of-lt h)); rest = λ k h. refl }

@@ -4,7 +4,7 @@ use Prim.Native.Nat.{ℕ, _-_, _≤_}
 use native.Mathlib.Omega.{arith}
 use lib.IntN.{pos, _+ℤ_, _-ℤ_}
 use Rattle.cells.proofs.Whole.{sum, to, up-pos}
-use Rattle.laying.specs.Layout.{label}
+use Rattle.laying.specs.inner.Layout.{label}
 use Rattle.laying.proofs.Reading.{word-sum, step-sum}
 
 pub over : (x y : ℕ) → y ≤ x → label x ≡ label y +ℤ pos (x - y)

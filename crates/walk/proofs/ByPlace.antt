@@ -2,22 +2,21 @@
 -- nothing.
 use mathlib.Core.Path.{_≡_, refl, sym, ap, _∙_, subst}
 use mathlib.Core.List.{List, [], _∷_}
-use Prim.Native.Nat.{ℕ, zero, suc, _+_, _≤_, _<_}
+use Prim.Native.Nat.{ℕ, zero, suc, _+_, _<_}
 use native.Mathlib.Decide.{decLt}
 use native.Mathlib.Omega.{arith}
 use lib.IntN.{pos}
 use lib.ListN.{length, getD}
 use Rattle.cells.specs.Kind.{Pair, _⊕_, Lone}
+use Rattle.cells.specs.Counted.{Exactly}
 use Rattle.cells.specs.Quads.{quads}
 use Rattle.cells.specs.Listed.{In, Sorted, Entry, Before, Some, Listed}
 use Rattle.cells.specs.Listed.In.{first, later}
 use Rattle.cells.specs.Listed.Sorted.{more}
-use Rattle.cells.specs.Listed.Before.{by-u, by-v}
 use Rattle.cells.proofs.Tests.{not-in}
-use Rattle.cells.proofs.Listing.{add-inj}
+use Rattle.cells.proofs.Listing.{apart, add-inj}
 use Rattle.walk.specs.Read.{entryAt, entriesFrom}
-use Rattle.walk.specs.Demanded.{Place, AtLeast, Lists}
-use Rattle.cells.proofs.NoMore.{no-more}
+use Rattle.walk.specs.Demanded.{Place, Lists}
 
 -- ---- the entries of a list, by place
 
@@ -44,10 +43,6 @@ in-order (e ∷ es) (more a o) zero (suc q) l h = a (getD es q past) (entry-in e
 in-order (e ∷ es) (more a o) (suc p) (suc q) l h = in-order es o p q (omega arith) (omega arith)
 
 -- ---- a listing
-
-apart : {e f : Entry} → Before e f → e .u ≡ f .u → e .v ≡ f .v → ⊥
-apart (by-u a) p q = omega arith
-apart (by-v a b) p q = omega arith
 
 module _ (cells : List ℕ) (s : ℕ) (L : ℕ → Pair) (es : List Entry) (l : Listed quads cells s L es) where
   -- two entries of one corner have one pair, and so are one
@@ -88,21 +83,16 @@ module _ (cells : List ℕ) (s : ℕ) (L : ℕ → Pair) (es : List Entry) (l : 
       ordered = λ p q r h. subst (λ (f : Entry). Before (entry p) f) (is q h) (subst (λ (e : Entry). Before e (getD es q past)) (is p (omega arith)) (in-order es (l .ordered) p q r (omega arith)));
     }
 
-  pub enough-lone : (t : ℕ) → t ≤ length es → AtLeast (λ c. Lone quads cells s L c) t
-  enough-lone t h = record {
+  pub exactly-lone : Exactly (Lone quads cells s L) (length es)
+  exactly-lone = record {
     pick = λ p. getD es p past .corner;
-    each = λ p l₁. l .lone (getD es p past) (entry-in es p (omega arith));
-    apart = λ p q hp hq c. once p q (omega arith) (omega arith) c;
+    each = λ p h. l .lone (getD es p past) (entry-in es p h);
+    apart = once;
+    every = λ c h.
+        let f = l .every c h in
+        let r = place-of es (f .among) in
+        record { at = r .at; small = r .small; is = ap (λ (e : Entry). e .corner) (r .is) ∙ f .is };
   }
-
-  pub no-more-lone : (t : ℕ) → AtLeast (λ c. Lone quads cells s L c) t → t ≤ length es
-  no-more-lone t a = no-more t (length es) (λ k b. place k b .at) (λ k b. place k b .small) (λ j k bj bk e. a .apart j k bj bk (sym (place j bj .is) ∙ ap (λ (p : ℕ). getD es p past .corner) e ∙ place k bk .is))
-    where
-      place : (k : ℕ) (b : k < t) → Place (length es) (λ p. getD es p past .corner ≡ a .pick k)
-      place k b =
-          let f = l .every (a .pick k) (a .each k b) in
-          let r = place-of es (f .among) in
-          record { at = r .at; small = r .small; is = ap (λ (e : Entry). e .corner) (r .is) ∙ f .is }
 
 -- ---- the entries of a component in the words
 

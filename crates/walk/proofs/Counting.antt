@@ -11,11 +11,12 @@ use lib.ListN.{length, length-append}
 use Rattle.mesh.specs.Lists.{mostQuads}
 use Rattle.cells.specs.Listed.{Entry}
 use Rattle.fates.specs.declared.Run.{Run}
-use Rattle.fates.specs.Judged.{fateAt, isKept}
-use Rattle.fates.specs.Index.{runsAt}
-use Rattle.walk.specs.Emitted.{leastX, leastY, entriesOf, outTo}
+use Rattle.fates.specs.inner.FateWords.{fateAt}
+use Rattle.fates.specs.Judged.{isKept}
+use Rattle.fates.specs.inner.Index.{runsAt}
+use Rattle.walk.specs.inner.Emitted.{leastX, leastY, entriesOf, outTo}
 use Rattle.walk.specs.Call.{allEntries}
-use Rattle.walk.specs.Emitting.{Counted}
+use Rattle.walk.specs.inner.Emitting.{Counted}
 use Rattle.walk.proofs.Shifted.{length-entries}
 
 pub all-snoc : (out : List (List Entry)) (es : List Entry) → allEntries (out ++ (es ∷ [])) ≡ allEntries out ++ es

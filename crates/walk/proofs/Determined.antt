@@ -1,19 +1,20 @@
 -- The call has one outcome (`determined`): the rows decide, an input has one grouping of its quads, and a grouping one list of components,
 -- which depends on the groups' numbers of its cells alone. Assumes nothing.
-use mathlib.Core.Path.{_≡_, refl, sym, ap, _∙_}
+use mathlib.Core.Path.{_≡_, sym, ap, _∙_}
 use mathlib.Core.List.{List}
-use Prim.Native.Nat.{ℕ, zero, suc, _≤_, _<_}
+use Prim.Native.Nat.{ℕ, _≤_, _<_}
 use native.Mathlib.Omega.{arith}
+use lib.Dec.{eqb}
 use lib.ListN.{length}
 use Rattle.refusal.specs.declared.Refusal.{Refusal}
 use Rattle.refusal.specs.Rows.{_then_}
 use Rattle.refusal.proofs.Rows.{shut-open, one-why}
-use Rattle.words.specs.Sorting.{equal}
 use Rattle.cells.specs.Kind.{Pair, Kind}
 use Rattle.cells.specs.Quads.{quads}
-use Rattle.cells.specs.Listed.{Entry, Grouping, members, Labelling, Component, Dropped, Components}
+use Rattle.cells.specs.Listed.{Entry, groupingBy, members, Labelling, Component, Dropped, Components}
 use Rattle.cells.specs.Listed.Dropped.{few-cells, no-labelling, few-corners}
 use Rattle.cells.specs.Listed.Components.{start, within, dropped, kept}
+use Rattle.cells.proofs.Sums.{how-many-same}
 use Rattle.cells.proofs.Groups.{one-answer}
 use Rattle.cells.proofs.Squares.{quad-laws}
 use Rattle.cells.proofs.Yields.{components-determined}
@@ -24,34 +25,29 @@ use Rattle.walk.specs.Call.Allowed.{refused, labelled}
 
 -- ---- two numberings that agree below n
 
-equal-same : (d f : ℕ → ℕ) (n v : ℕ) → ((q : ℕ) → q < n → d q ≡ f q) → equal d n v ≡ equal f n v
-unfolding equal
-equal-same d f zero v h = refl
-equal-same d f (suc n) v h = rw (equal-same d f n v (λ q l. h q (omega arith)), h n (omega arith))
-
-abbrev numbered : (n few least : ℕ) → (ℕ → ℕ) → Grouping
-numbered n few least number = record { n = n; number = number; least-cells = few; least-corners = least }
-
 module _ (k : Kind) (cells : List ℕ) (n few least : ℕ) where
-  labelling-same : (number other : ℕ → ℕ) → ((q : ℕ) → q < n → number q ≡ other q) → {s : ℕ} {L : ℕ → Pair} → Labelling k cells (numbered n few least number) s L → Labelling k cells (numbered n few least other) s L
+  labelling-same : (number other : ℕ → ℕ) → ((q : ℕ) → q < n → number q ≡ other q) → {s : ℕ} {L : ℕ → Pair} → Labelling k cells (groupingBy n number few least) s L → Labelling k cells (groupingBy n other few least) s L
   labelling-same number other same m = record {
     clear = record { clear = λ p q r lp lq lr ep eq er. m .clear .clear p q r lp lq lr (same p lp ∙ ep) (same q lq ∙ eq) (same r lr ∙ er) };
     fits = m .fits;
   }
 
   module _ (number other : ℕ → ℕ) (same : (q : ℕ) → q < n → number q ≡ other q) where
-    enough-same : (s : ℕ) → few ≤ members k cells (numbered n few least number) s → few ≤ members k cells (numbered n few least other) s
-    enough-same s l = omega (arith, equal-same number other n s same)
+    members-same : (s : ℕ) → members k cells (groupingBy n other few least) s ≡ members k cells (groupingBy n number few least) s
+    members-same s = how-many-same (λ (q : ℕ). eqb (number q) s) (λ (q : ℕ). eqb (other q) s) n (λ q l. ap (λ (v : ℕ). eqb v s) (sym (same q l)))
 
-    component-same : {s : ℕ} {es : List Entry} → Component k cells (numbered n few least number) s es → Component k cells (numbered n few least other) s es
+    enough-same : (s : ℕ) → few ≤ members k cells (groupingBy n number few least) s → few ≤ members k cells (groupingBy n other few least) s
+    enough-same s l = omega (arith, members-same s)
+
+    component-same : {s : ℕ} {es : List Entry} → Component k cells (groupingBy n number few least) s es → Component k cells (groupingBy n other few least) s es
     component-same {s} c = record { enough = enough-same s (c .enough); L = c .L; labelling = labelling-same number other same (c .labelling); listed = c .listed; corners = c .corners }
 
-    dropped-same : {s : ℕ} → Dropped k cells (numbered n few least number) s → Dropped k cells (numbered n few least other) s
-    dropped-same {s} (few-cells l) = few-cells (omega (arith, equal-same number other n s same))
+    dropped-same : {s : ℕ} → Dropped k cells (groupingBy n number few least) s → Dropped k cells (groupingBy n other few least) s
+    dropped-same {s} (few-cells l) = few-cells (omega (arith, members-same s))
     dropped-same {s} (no-labelling l r) = no-labelling (enough-same s l) (λ L m. r L (labelling-same other number (λ q b. sym (same q b)) m))
     dropped-same {s} (few-corners l L m es o c) = few-corners (enough-same s l) L (labelling-same number other same m) es o c
 
-    components-same : (m : ℕ) (out : List (List Entry)) → m ≤ n → Components k cells (numbered n few least number) m out → Components k cells (numbered n few least other) m out
+    components-same : (m : ℕ) (out : List (List Entry)) → m ≤ n → Components k cells (groupingBy n number few least) m out → Components k cells (groupingBy n other few least) m out
     components-same m out b start = start
     components-same m out b (within {m = p} c e) = within (components-same p out (omega arith) c) (λ f. e (same p (omega arith) ∙ f))
     components-same m out b (dropped {m = p} c e d) = dropped (components-same p out (omega arith) c) (sym (same p (omega arith)) ∙ e) (dropped-same d)

@@ -6,11 +6,12 @@ use Prim.Native.Nat.{ℕ, zero, suc, _+_, _*_, _-_, _≤_, _<_, max}
 use native.Mathlib.Decide.{ℕ-discrete}
 use native.Mathlib.Omega.{arith}
 use Rattle.cells.specs.Listed.{Sorted, Entry, Before}
-use Rattle.cells.specs.Holes.{total, places, width, height, holes}
+use Rattle.cells.specs.Sums.{total}
+use Rattle.cells.specs.Holes.{places, width, height, holes}
 use Rattle.cells.proofs.Rectangle.{holes-are}
 use Rattle.fates.specs.declared.Run.{Run}
-use Rattle.walk.specs.Emitted.{xIn, yIn, leastX, leastY, entriesTo, entriesOf}
-use Rattle.walk.specs.Emitting.{Ascending}
+use Rattle.walk.specs.inner.Emitted.{xIn, yIn, leastX, leastY, entriesTo, entriesOf}
+use Rattle.walk.specs.inner.Emitting.{Ascending}
 use Rattle.walk.specs.Demanded.{Place}
 use Rattle.walk.proofs.Shifted.{entryAt, none-yet, entries-more, least-le, least-met, entries-sorted}
 use Rattle.walk.proofs.Counting.{run-length}

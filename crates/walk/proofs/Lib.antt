@@ -13,6 +13,10 @@ pub mod ByPlace
 pub mod Success
 pub mod Reasons
 pub mod ByFate
+pub mod Seeds
+pub mod Wanted
+pub mod Early
+pub mod ByRoom
 pub mod Demand
 pub mod Sound
 pub mod Rooms

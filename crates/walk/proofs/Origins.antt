@@ -10,6 +10,7 @@ use borrow.Author.Tests.{lt-ltb, le-ltb}
 use lib.Dec.{ltb}
 use lib.ListN.{length, getD, length-append, List·getD-append}
 use lib.Seq.{getD-append-seam}
+use Rattle.words.proofs.Listing.{each-more}
 use Rattle.cells.specs.Kind.{Kind}
 use Rattle.cells.specs.Listed.{Entry, Grouping, Component, Dropped, Components}
 use Rattle.cells.specs.Listed.Components.{start, within, dropped, kept}
@@ -62,13 +63,8 @@ module _ (k : Kind) (cells : List ℕ) (g : Grouping) where
     count-more : length more ≡ length out + 1
     count-more = length-append out (es ∷ [])
 
-    -- of the components with one more
     each : (P : ℕ → Type 0) → ((j : ℕ) → j < length out → P j) → P (length out) → (j : ℕ) → j < length more → P j
-    each P f z j l = go (decLt j (length out))
-      where
-        go : Dec (j < length out) → P j
-        go (yes b) = f j b
-        go (no b) = subst P (omega (arith, count-more, b, l)) z
+    each = each-more (length out) (length more) count-more
 
     told-more : (s : ℕ) → s < suc m → g .number s ≡ s → Told seeds (length more) s
     told-more s l e = go (decLt s m)

@@ -8,14 +8,14 @@ use Rattle.refusal.specs.declared.Gate.{Gate}
 use Rattle.refusal.specs.declared.Gate.the-variants.{Open, Shut}
 use Rattle.refusal.specs.declared.Refusal.{Refusal}
 use Rattle.cells.specs.Listed.{Entry}
-use Rattle.laying.specs.Layout.{Given}
-use Rattle.fates.specs.Computed.{Computed}
+use Rattle.laying.specs.inner.Layout.{Given}
+use Rattle.fates.specs.inner.Computed.{Computed}
 use Rattle.walk.specs.declared.Labelled.the-variants.{Refused}
 use Rattle.walk.specs.Input.{Input, quadCount, Answer}
 use Rattle.walk.specs.Call.{entryGate, Outcome, outcomeBy, Allowed}
 use Rattle.walk.specs.Call.Allowed.{refused as by-rows, labelled as by-answer}
-use Rattle.walk.specs.Emitted.{outTo}
-use Rattle.walk.specs.Emitting.{Writable}
+use Rattle.walk.specs.inner.Emitted.{outTo}
+use Rattle.walk.specs.inner.Emitting.{Writable}
 use Rattle.walk.proofs.Sound.{spanOf, Sound, entry-sound}
 use Rattle.walk.proofs.Yielded.{components-are, writable}
 use Rattle.walk.proofs.Rooms.{roomRows, outcome-by-length}

@@ -7,7 +7,7 @@ use native.Mathlib.Nat.{add-zero}
 use native.Mathlib.Omega.{arith}
 use lib.ListN.{length, take, drop, length-append, take-append-drop}
 use lib.Seq.{length-take-le, take-at, drop-append-add, drop-drop}
-use Rattle.walk.specs.Emitting.{pasted}
+use Rattle.walk.specs.inner.Emitting.{pasted}
 
 pub pasted-none : (at : ℕ) (l : List ℕ) → pasted at [] l ≡ l
 pasted-none at l = ap (λ (k : ℕ). take at l ++ drop k l) (add-zero at) ∙ take-append-drop at l

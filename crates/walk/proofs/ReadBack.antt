@@ -7,7 +7,8 @@ use native.Mathlib.Omega.{arith}
 use lib.ListN.{length, getD, drop, length-append}
 use lib.Seq.{drop-cons, drop-drop, drop-length, getD-drop}
 use Rattle.cells.specs.Listed.{Entry}
-use Rattle.cells.specs.Holes.{total, holes}
+use Rattle.cells.specs.Sums.{total}
+use Rattle.cells.specs.Holes.{holes}
 use Rattle.cells.proofs.Listing.{entry-eq}
 use Rattle.walk.specs.Call.{entryWords, allEntries, componentWords}
 use Rattle.walk.specs.Read.{entryAt, entriesFrom, beforeOf, countOf, holesOf, componentAt, componentsFrom}

@@ -13,7 +13,7 @@ use Rattle.mesh.specs.Lists.{mostQuads}
 use Rattle.cells.specs.Listed.{Entry}
 use Rattle.walk.specs.declared.Labelled.the-variants.{Done, Refused}
 use Rattle.walk.specs.Call.{allEntries, roomRow, entriesRow, Outcome, outcomeBy}
-use Rattle.walk.specs.Emitting.{Counted, Written}
+use Rattle.walk.specs.inner.Emitting.{Counted, Written}
 
 -- rows 9 and 10 for these components
 abbrev pub roomRows : (out : List (List Entry)) (components entries : List ℕ) → Gate

@@ -6,14 +6,14 @@ use Prim.Native.Nat.{ℕ, _+_, _*_, _-_, _/_, _≤_, _<_}
 use native.Mathlib.Decide.{decLt}
 use native.Mathlib.Omega.{arith}
 use lib.ListN.{length, getD}
-use Rattle.words.specs.Order.{wordOf, groupedOf}
+use Rattle.words.specs.inner.Order.{wordOf, groupedOf}
 use Rattle.mesh.specs.Lists.{mostQuads}
 use Rattle.cells.specs.Kind.{Pair}
 use Rattle.cells.specs.Counted.{Among, Exactly}
 use Rattle.fates.specs.declared.Run.{Run}
-use Rattle.fates.specs.Fates.{keyIn, cornerIn, seedIn, Keyed, Holding}
-use Rattle.fates.specs.Index.{RunOf}
-use Rattle.walk.specs.Emitting.{Ascending}
+use Rattle.fates.specs.inner.Fates.{keyIn, cornerIn, seedIn, Keyed, Holding}
+use Rattle.fates.specs.inner.Index.{RunOf}
+use Rattle.walk.specs.inner.Emitting.{Ascending}
 
 -- the run's records are one for each corner that P holds of, with its pair under L
 pub record Held (P : ℕ → Type 0) (L : ℕ → Pair) (w : List ℕ) (run : Run) : Type 0 where
@@ -76,6 +76,6 @@ module _ {w : List ℕ} {a m s : ℕ} {run : Run} (r : RunOf w a m s run) where
     ascending h few room = record {
       room = omega (arith, r .at, r .count, r .stretch .up, r .stretch .most);
       few = omega (arith, r .count, r .stretch .most);
-      keys = λ k l. let q = h .keyed k l in omega (arith, q .is, q .x-small, q .y-small);
+      keys = λ k l. let q = h .keyed k l in omega (arith, q .is, q .x-near .high, q .y-near .high);
       rises = keys-rise;
     }

@@ -11,8 +11,8 @@ use Rattle.cells.specs.Listed.In.{first, later}
 use Rattle.cells.specs.Listed.Sorted.{none, more}
 use Rattle.cells.specs.Listed.Before.{by-u, by-v}
 use Rattle.cells.proofs.Tests.{not-in, in-front, in-last}
-use Rattle.fates.specs.Fates.{keyIn, cornerIn}
-use Rattle.walk.specs.Emitted.{xIn, yIn, leastOf, entriesTo}
+use Rattle.fates.specs.inner.Fates.{keyIn, cornerIn}
+use Rattle.walk.specs.inner.Emitted.{xIn, yIn, leastOf, entriesTo}
 use Rattle.walk.specs.Demanded.{Place}
 
 -- ---- lists with one more at their end

@@ -19,7 +19,7 @@ use Rattle.mesh.proofs.Differ.{corners-differ}
 use Rattle.cells.specs.Cells.{cell}
 use Rattle.walk.specs.Input.{Input, quadCount}
 use Rattle.walk.specs.Call.{gateOf, entryGate}
-use Rattle.laying.specs.Layout.{Given}
+use Rattle.laying.specs.inner.Layout.{Given}
 
 -- ---- the order of rows
 

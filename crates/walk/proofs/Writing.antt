@@ -11,10 +11,10 @@ use lib.ListN.{length, drop, length-append, length-drop}
 use Rattle.cells.specs.Listed.{Entry}
 use Rattle.cells.specs.Holes.{holes}
 use Rattle.fates.specs.declared.Run.{Run}
-use Rattle.fates.specs.Fates.{cornerIn}
-use Rattle.walk.specs.Emitted.{xIn, yIn, entriesTo, entriesOf}
+use Rattle.fates.specs.inner.Fates.{cornerIn}
+use Rattle.walk.specs.inner.Emitted.{xIn, yIn, entriesTo, entriesOf}
 use Rattle.walk.specs.Call.{entryWords, allEntries, componentWords}
-use Rattle.walk.specs.Emitting.{pasted, Written}
+use Rattle.walk.specs.inner.Emitting.{pasted, Written}
 use Rattle.walk.proofs.Shifted.{entryAt, entries-more, length-entries}
 use Rattle.walk.proofs.Counting.{all-snoc, run-length, outBelow, keeps, loneRun, Counting, joined, passed, one-more, grows}
 use Rattle.walk.proofs.Pasting.{front-more, pasted-more}

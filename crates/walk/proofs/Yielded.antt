@@ -8,32 +8,30 @@ use native.Mathlib.Omega.{arith}
 use lib.IntN.{pos}
 use lib.ListN.{length}
 use Rattle.mesh.specs.Lists.{mostQuads}
-use Rattle.cells.specs.Kind.{Pair, _⊕_, Fits, Lone}
-use Rattle.cells.specs.Counted.{Exactly}
+use Rattle.cells.specs.Kind.{Pair, _⊕_, Lone}
 use Rattle.cells.specs.Quads.{quads}
-use Rattle.cells.specs.Listed.{Entry, Some, Listed, Grouping, Components}
+use Rattle.cells.specs.Listed.{Entry, Some, Listed, Grouping, groupingBy, Components}
 use Rattle.cells.specs.Listed.Dropped.{few-cells, no-labelling, few-corners}
 use Rattle.cells.specs.Listed.Components.{start, within, dropped, kept}
 use Rattle.cells.proofs.Whole.{pair}
-use Rattle.cells.proofs.Counted.{one-count, exactly-same}
-use Rattle.cells.proofs.Squares.{quad-laws}
-use Rattle.cells.proofs.Unique.{one-lone}
-use Rattle.laying.specs.Layout.{label}
+use Rattle.laying.specs.inner.Layout.{label}
 use Rattle.fates.specs.declared.LabelParams.{LabelParams}
 use Rattle.fates.specs.declared.Run.{Run}
 use Rattle.fates.specs.declared.Fate.{Fate}
 use Rattle.fates.specs.declared.Fate.the-variants.{NotLowest, TooFewQuads, NoLabelling, TooFewLone, Kept}
-use Rattle.fates.specs.Fates.{groupingBy, loneAt, cornerIn, Laid, loneFrom}
-use Rattle.fates.specs.Judged.{Labels, Becomes, fateAt, isLabelled, isKept}
-use Rattle.fates.specs.Index.{runsAt}
-use Rattle.fates.specs.Computed.{Computed}
-use Rattle.walk.specs.Emitted.{xIn, yIn, leastX, leastY, entriesOf, outTo}
-use Rattle.walk.specs.Emitting.{Ascending, Writable}
+use Rattle.fates.specs.inner.Fates.{loneAt, cornerIn, Laid, loneFrom}
+use Rattle.fates.specs.Judged.{Labels, Becomes, isKept}
+use Rattle.fates.specs.inner.FateWords.{fateAt, isLabelled}
+use Rattle.fates.specs.inner.Index.{runsAt}
+use Rattle.fates.specs.inner.Computed.{Computed}
+use Rattle.walk.specs.inner.Emitted.{xIn, yIn, leastX, leastY, entriesOf, outTo}
+use Rattle.walk.specs.inner.Emitting.{Ascending, Writable}
 use Rattle.walk.specs.Demanded.{Place}
 use Rattle.walk.proofs.Above.{over}
 use Rattle.walk.proofs.Shifted.{entryAt, least-le, least-met, entry-of, entry-in, entries-sorted}
 use Rattle.walk.proofs.Runs.{Held, exactly, held, ascending}
 use Rattle.walk.proofs.Counting.{run-length, joined, passed}
+use Rattle.walk.proofs.Reasons.{one-lone-count}
 
 -- ---- the lone corners of one group
 
@@ -57,9 +55,9 @@ module _ (cells : List ℕ) (s : ℕ) (L : ℕ → Pair) (w : List ℕ) (run : R
   words-are : (k : ℕ) → k < m → (L (cornerIn w a k) ≡ (label (xIn w a k), label (yIn w a k))) × (xIn w a k < 32768) × (yIn w a k < 32768)
   words-are k l =
       let q = h .keyed k l in
-      let f : xIn w a k ≡ q .x = omega (arith, q .is, q .y-small) in
-      let g : yIn w a k ≡ q .y = omega (arith, q .is, q .y-small) in
-      (rw (f, g) (q .pair), omega (arith, q .x-small), omega (arith, q .y-small))
+      let f : xIn w a k ≡ q .x = omega (arith, q .is, q .y-near .high) in
+      let g : yIn w a k ≡ q .y = omega (arith, q .is, q .y-near .high) in
+      (rw (f, g) (q .pair), omega (arith, q .x-near .high), omega (arith, q .y-near .high))
 
   shifted : (k : ℕ) → k < m → L (cornerIn w a k) ≡ (label x0, label y0) ⊕ (pos (xIn w a k - x0), pos (yIn w a k - y0))
   shifted k l = words-are k l .0 ∙ pair (over (xIn w a k) x0 (low k l .0)) (over (yIn w a k) y0 (low k l .1))
@@ -81,11 +79,6 @@ module _ (cells : List ℕ) (s : ℕ) (L : ℕ → Pair) (w : List ℕ) (run : R
       taken-v : Place m (λ k. yIn w a k ≡ y0) → Some (entriesOf w run) (λ f. f .v ≡ 0)
       taken-v t = record { entry = entryAt w a x0 y0 (t .at); among = entry-in w a x0 y0 m (t .at) (t .small); is = omega (arith, t .is) }
 
--- as many corners are lone under one assignment that fits as under another
-one-lone-count : (cells : List ℕ) (s : ℕ) (L M : ℕ → Pair) → Fits quads cells s L → Fits quads cells s M → {j k : ℕ} → Exactly (Lone quads cells s L) j → Exactly (Lone quads cells s M) k → j ≡ k
-one-lone-count cells s L M f g x y =
-    one-count (Lone quads cells s M) (exactly-same (Lone quads cells s L) (Lone quads cells s M) (λ c k. one-lone quads quad-laws cells f g k) (λ c k. one-lone quads quad-laws cells g f k) x) y
-
 -- ---- the components, quad by quad
 
 kept-labelled : (f : Fate) → isKept f ≡ true → isLabelled f ≡ true
@@ -98,7 +91,7 @@ kept-labelled (Kept c) e = refl
 
 module _ {span n : ℕ} {cells : List ℕ} {params : LabelParams} {xs w : List ℕ} (o : Computed span cells n params xs w) (few : n ≤ mostQuads) (room : 4 * span + 27 * n ≤ length w) where
   abbrev g : Grouping
-  g = groupingBy n (o .number) params
+  g = groupingBy n (o .number) (params .quads) (params .corners)
 
   abbrev run : ℕ → Run
   run s = runsAt span n w s .lone

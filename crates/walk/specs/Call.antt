@@ -9,6 +9,7 @@ use Rattle.refusal.specs.declared.Gate.{Gate}
 use Rattle.refusal.specs.declared.Gate.the-variants.{Open, Shut}
 use Rattle.refusal.specs.declared.Refusal.{Refusal}
 use Rattle.refusal.specs.declared.Refusal.the-variants.{RecordsShort, EntriesShort}
+use Rattle.refusal.specs.InNumbers.{InNumbers, gives, refuses}
 use Rattle.refusal.specs.Rows.{refuseIf, _then_}
 use Rattle.mesh.specs.Lists.{wholeRow, limitRow, mostCorners, mostQuads, workRow, quadWords}
 use Rattle.mesh.specs.Cells.{cornersRow, twiceRow}
@@ -50,6 +51,11 @@ roomRow words wanted = refuseIf (ltb (words / 3) wanted) (RecordsShort wanted)
 abbrev pub entriesRow : ℕ → ℕ → Gate
 entriesRow words wanted = refuseIf (ltb (words / 3) wanted) (EntriesShort wanted)
 
+-- the answer in 01's numbers: how many components there are, and how many entries
+abbrev pub labelledTold : Labelled → InNumbers (ℕ × ℕ)
+labelledTold (Done components entries) = gives (components, entries)
+labelledTold (Refused why) = refuses (0, 0) why
+
 -- the answer, and the lists that could change
 pub record Outcome : Type 0 where
   pub answer : Labelled
@@ -68,7 +74,12 @@ outcomeBy Open out work components entries =
     }
 outcomeBy (Shut why) out work components entries = record { answer = Refused why; work = replicate (length work) 0; components = components; entries = entries }
 
+-- and so with the room that two lists have for the components and their entries
+abbrev pub outcomeIn : List (List Entry) → (work components entries : List ℕ) → Outcome
+outcomeIn out work components entries =
+    outcomeBy (roomRow (length components) (length out) then entriesRow (length entries) (length (allEntries out))) out work components entries
+
 pub data Allowed (i : Input) (work components entries : List ℕ) : Outcome → Type 0 where
   refused : (why : Refusal) → entryGate i (length work) ≡ Shut why → Allowed i work components entries (record { answer = Refused why; work = work; components = components; entries = entries })
   labelled : entryGate i (length work) ≡ Open → (out : List (List Entry)) → Answer i out
-      → Allowed i work components entries (outcomeBy (roomRow (length components) (length out) then entriesRow (length entries) (length (allEntries out))) out work components entries)
+      → Allowed i work components entries (outcomeIn out work components entries)

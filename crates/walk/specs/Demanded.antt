@@ -1,4 +1,5 @@
--- Demand 3 in words that a reader can check: what is asked of a group that yields a component, and what the words of its entries are.
+-- Demand 3 in words that a reader can check: what is asked of a group that yields a component, which group each component is of, and what
+-- the words of its entries are.
 use mathlib.Core.Path.{_≡_}
 use mathlib.Core.List.{List}
 use Prim.Native.Nat.{ℕ, _≤_, _<_}
@@ -6,7 +7,7 @@ use lib.IntN.{pos}
 use Rattle.cells.specs.Kind.{Pair, _⊕_, Fits, Lone}
 use Rattle.cells.specs.Listed.{Entry, Before, members}
 use Rattle.cells.specs.Quads.{quads}
-use Rattle.walk.specs.Input.{Input, grouping}
+use Rattle.walk.specs.Input.{Input, quadCount, grouping}
 
 -- one of the numbers below m is as P says
 pub record Place (m : ℕ) (P : ℕ → Type 0) : Type 0 where
@@ -27,12 +28,29 @@ pub record Demanded (i : Input) (number : ℕ → ℕ) (s : ℕ) : Type 0 where
   pub fits : Fits quads (i .quads) s L
   pub corners : AtLeast (λ c. Lone quads (i .quads) s L c) (i .params .corners)
 
--- it lacks one of these: the first that applies
+-- s is the lowest quad of a group that has all that is demanded
+pub record Yields (i : Input) (number : ℕ → ℕ) (s : ℕ) : Type 0 where
+  pub small : s < quadCount i
+  pub lowest : number s ≡ s
+  pub demanded : Demanded i number s
+
+-- k groups have all that is demanded, and component j is of the group whose lowest quad is seed j: these rise, and are all there are
+pub record Seeds (i : Input) (number : ℕ → ℕ) (k : ℕ) (seed : ℕ → ℕ) : Type 0 where
+  pub each : (j : ℕ) → j < k → Yields i number (seed j)
+  pub rises : (j m : ℕ) → j < m → m < k → seed j < seed m
+  pub every : (s : ℕ) → Yields i number s → Place k (λ j. seed j ≡ s)
+
+-- a group lacks one of what is demanded: the first that applies
 pub data Lacks (i : Input) (number : ℕ → ℕ) (s : ℕ) : Type 0 where
   few-quads : members quads (i .quads) (grouping i number) s < i .params .quads → Lacks i number s
   no-assignment : i .params .quads ≤ members quads (i .quads) (grouping i number) s → ((L : ℕ → Pair) → Fits quads (i .quads) s L → ⊥) → Lacks i number s
   few-lone : i .params .quads ≤ members quads (i .quads) (grouping i number) s → (L : ℕ → Pair) → Fits quads (i .quads) s L
       → (AtLeast (λ c. Lone quads (i .quads) s L c) (i .params .corners) → ⊥) → Lacks i number s
+
+-- whether one of k components is of the group of lowest quad s, and if not, what the group lacks
+pub data Decided (i : Input) (number : ℕ → ℕ) (k : ℕ) (seed : ℕ → ℕ) (s : ℕ) : Type 0 where
+  kept : Place k (λ j. seed j ≡ s) → Demanded i number s → Decided i number k seed s
+  dropped : (Place k (λ j. seed j ≡ s) → ⊥) → Lacks i number s → Decided i number k seed s
 
 -- the first `count` entries are of the lone corners under L, each of them once, with its pair less `least`, in order of u, then v; if there
 -- is one, both minima are 0

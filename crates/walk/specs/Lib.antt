@@ -1,7 +1,7 @@
 pub mod Input
 pub mod Call
-pub mod Emitted
-pub mod Emitting
 pub mod Read
 pub mod Demanded
+pub mod Wanted
 pub mod Single
+pub mod inner

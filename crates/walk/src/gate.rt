@@ -6,6 +6,7 @@ ghost use Rattle.refusal.specs.Rows.{_then_};
 ghost use Rattle.mesh.specs.Lists.{wholeRow, limitRow, mostCorners, mostQuads, workRow, quadWords};
 ghost use Rattle.mesh.specs.Cells.{cornersRow, twiceRow};
 ghost use Rattle.fates.specs.declared.LabelParams.{LabelParams};
+ghost use Rattle.walk.specs.Input.{given};
 ghost use Rattle.walk.specs.Call.{entryGate};
 use mesh::inner::cells::corners_row;
 use mesh::inner::cells::twice_row;
@@ -43,7 +44,7 @@ fn values_gate(quads: &[u32], corners: usize, words: usize) -> Gate
 
 // All rows but the ninth and the tenth.
 pub(crate) fn entry(quads: &[u32], corners: usize, words: usize) -> Gate
-    ensures { λ r. ⌜ ((p : LabelParams) → r ≡ entryGate (record { quads = now (quads .entry); corners = corners; params = p }) words) ⌝ }
+    ensures { λ r. ⌜ ((p : LabelParams) → r ≡ entryGate (given (quads .entry) corners p) words) ⌝ }
 {
     let lengths = lengths_gate(quads.len(), corners);
     match lengths {

@@ -2,11 +2,9 @@
 // a caller may know the counts and write nothing. `Writable` is what `compute` of `fates` has left, over quads that the rows of the calls
 // above let through.
 ghost use mathlib.Core.Path.{_≡_};
-ghost use lib.ListN.{length};
-ghost use Rattle.refusal.specs.Rows.{_then_};
-ghost use Rattle.walk.specs.Call.{allEntries, roomRow, entriesRow, Outcome, outcomeBy};
-ghost use Rattle.walk.specs.Emitted.{outTo};
-ghost use Rattle.walk.specs.Emitting.{Writable, Counted};
+ghost use Rattle.walk.specs.Call.{Outcome, outcomeIn};
+ghost use Rattle.walk.specs.inner.Emitted.{outTo};
+ghost use Rattle.walk.specs.inner.Emitting.{Writable, Counted};
 use crate::Labelled;
 use crate::emit::counted;
 use crate::emit::is_kept;
@@ -53,7 +51,8 @@ pub fn write_components(
 ) -> Labelled
     requires { ⌜ Writable (now work) span n ⌝ }
     requires { ⌜ Counted (outTo (now work) span n n) n (totals .components) (totals .entries) ⌝ }
-    ensures { λ r. ⌜ _≡_ {A = Outcome} (record { answer = r; work = now (work .exit); components = now (components .exit); entries = now (entries .exit) }) (outcomeBy (roomRow (length (now (components .entry))) (length (outTo (now (work .entry)) span n n)) then entriesRow (length (now (entries .entry))) (length (allEntries (outTo (now (work .entry)) span n n)))) (outTo (now (work .entry)) span n n) (now (work .entry)) (now (components .entry)) (now (entries .entry))) ⌝ }
+    ensures { λ r. ⌜ _≡_ {A = Outcome} (record { answer = r; work = now (work .exit); components = now (components .exit); entries = now (entries .exit) })
+        (outcomeIn (outTo (now (work .entry)) span n n) (now (work .entry)) (now (components .entry)) (now (entries .entry))) ⌝ }
 {
     if components.len() / 3 < totals.components {
         fill_zero(work);

@@ -1,5 +1,6 @@
 // The labelling of quads: each group that is kept becomes a component, which lists its lone corners. `label_components` is the call;
 // `inner` has what follows the labelling, for other calls that label.
+ghost use Rattle.walk.specs.Input.{given};
 ghost use Rattle.walk.specs.Call.{Allowed};
 use fates::LabelParams;
 use fates::inner::compute;
@@ -28,7 +29,9 @@ pub fn label_components(
     components: &mut [u32],
     entries: &mut [u32],
 ) -> Labelled
-    ensures { λ r. ⌜ Allowed (record { quads = now (quads .entry); corners = corners; params = params }) (now (work .entry)) (now (components .entry)) (now (entries .entry)) (record { answer = r; work = now (work .exit); components = now (components .exit); entries = now (entries .exit) }) ⌝ }
+    ensures { λ r. ⌜ Allowed (given (quads .entry) corners params)
+        (now (work .entry)) (now (components .entry)) (now (entries .entry))
+        (record { answer = r; work = now (work .exit); components = now (components .exit); entries = now (entries .exit) }) ⌝ }
 {
     let gate = gate::entry(quads, corners as usize, work.len());
     if let Gate::Shut(why) = gate {

@@ -1,5 +1,3 @@
 pub mod Listing
 pub mod Sorting
-pub mod Regions
-pub mod Order
-pub mod Digits
+pub mod inner

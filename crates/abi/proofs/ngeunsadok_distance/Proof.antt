@@ -1,5 +1,7 @@
 -- The call's answer, told.
 use mathlib.Core.Path.{ap, _∙_}
+use Rattle.measure.specs.declared.Distance.{Distance}
+use Rattle.measure.specs.Answers.{distanceTold}
 use Rattle.abi.specs.Answers.{apartFrom}
 use borrow.Author.Needs.{needs}
 use Rattle.abi.proofs.ngeunsadok_distance.Statement.{statement}
@@ -12,7 +14,7 @@ tell-distance-requires : tie.Need-tell-distance-requires
 tell-distance-requires c κs = search needs
 
 returns : tie.Need-returns
-returns c = c .tell-distance .ensures ∙ ap apartFrom (c .before .axis-distance .ensures)
+returns c = c .tell-distance .ensures ∙ ap (λ (m : Distance). apartFrom (distanceTold m)) (c .before .axis-distance .ensures)
 
 pub ngeunsadok-distance-spec : {M : Type 1} → statement M
 ngeunsadok-distance-spec =

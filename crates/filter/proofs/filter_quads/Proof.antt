@@ -5,7 +5,7 @@ use native.Mathlib.Omega.{arith}
 use lib.ListN.{length}
 use Rattle.filter.specs.Input.{Input, quadCount}
 use Rattle.mesh.specs.Lists.{quadWords}
-use Rattle.filter.specs.Steps.{Sound}
+use Rattle.filter.specs.inner.Steps.{Sound}
 use Rattle.filter.proofs.Sound.{entry-sound}
 use Rattle.filter.proofs.Outcomes.{front, few, room, refused, short, done}
 use borrow.Author.Needs.{needs}

@@ -3,7 +3,7 @@
 ghost use Prim.Native.Nat.{_*_, _≤_};
 ghost use lib.ListN.{length};
 ghost use Rattle.gridtext.specs.Text.{Frame};
-ghost use Rattle.gridtext.specs.Unpacked.{mostComponents, mostEntries, Standing, LabelsStanding};
+ghost use Rattle.gridtext.specs.inner.Unpacked.{mostComponents, mostEntries, Standing, LabelsStanding};
 use crate::FrameRead;
 use crate::inner::room;
 use crate::inner::unpack;

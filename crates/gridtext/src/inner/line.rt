@@ -3,9 +3,9 @@ ghost use mathlib.Core.Path.{_≡_};
 ghost use mathlib.Core.List.{_++_};
 ghost use Prim.Native.Nat.{_+_, _≤_};
 ghost use lib.ListN.{length, take};
-ghost use Rattle.digits.specs.Run.{endOf};
-ghost use Rattle.gridtext.specs.Rows.{mostWords, listOf, endAfter};
-ghost use Rattle.gridtext.specs.Read.{LineAt};
+ghost use Rattle.digits.specs.Taken.{endByte};
+ghost use Rattle.gridtext.specs.inner.Rows.{mostWords, listOf, endAfter};
+ghost use Rattle.gridtext.specs.inner.Read.{LineAt};
 use crate::inner::room;
 use crate::inner::row;
 use digits::End;
@@ -21,7 +21,7 @@ pub(crate) enum Next {
 
 // What ends a field: a blank where others follow, and else the line feed.
 fn end_of(others: usize) -> End
-    ensures { λ r. ⌜ endOf r ≡ endAfter others ⌝ }
+    ensures { λ r. ⌜ endByte r ≡ endAfter others ⌝ }
 {
     if others == 0 { End::Feed } else { End::Blank }
 }

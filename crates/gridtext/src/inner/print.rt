@@ -6,8 +6,8 @@ ghost use lib.ListN.{length};
 ghost use Rattle.walk.specs.Read.{entryAt, entriesFrom, componentAt};
 ghost use Rattle.digits.specs.Digits.{decimalOf};
 ghost use Rattle.gridtext.specs.Answer.{badText, refusedText, entryLine, entryLines, componentLines};
-ghost use Rattle.gridtext.specs.Held.{badBytes, refusedBytes, Printable, PrintsHeld, Readable};
-ghost use Rattle.gridtext.specs.Printed.{Printed, Room, lastFields};
+ghost use Rattle.gridtext.specs.inner.Held.{badBytes, refusedBytes, Printable, PrintsHeld, Readable};
+ghost use Rattle.gridtext.specs.inner.Printed.{Printed, Room, lastFields};
 use refusal::Refusal;
 use words::inner::wide;
 

@@ -2,8 +2,8 @@
 ghost use mathlib.Core.Path.{_≡_};
 ghost use Prim.Native.Nat.{_<_};
 ghost use lib.ListN.{length, getD};
-ghost use Rattle.digits.specs.Run.{endOf};
-ghost use Rattle.gridtext.specs.Rows.{letterOf, kindsOf, sizeOf, foundOf, PairAt, FieldAt};
+ghost use Rattle.digits.specs.Taken.{endByte};
+ghost use Rattle.gridtext.specs.inner.Rows.{letterOf, kindsOf, sizeOf, foundOf, PairAt, FieldAt};
 use crate::inner::room;
 use digits::End;
 use digits::Taken;
@@ -127,7 +127,7 @@ fn marked_word(taken: Taken) -> Found
 
 // A spread from `at` on, then the end: a minus where it is missing, or else a float.
 fn spread_at(text: &[u8], at: usize, end: End) -> Found
-    ensures { λ r. ⌜ FieldAt Kind.Spread (now (text .entry)) at (endOf end) r ⌝ }
+    ensures { λ r. ⌜ FieldAt Kind.Spread (now (text .entry)) at (endByte end) r ⌝ }
 {
     if pair_at(text, at, b'-', digits::byte(end)) {
         return Found::Words(Few::Two(0, 0), at + 2);
@@ -137,7 +137,7 @@ fn spread_at(text: &[u8], at: usize, end: End) -> Found
 
 // A twin from `at` on, then the end: a minus where there is none, or else a number.
 fn twin_at(text: &[u8], at: usize, end: End) -> Found
-    ensures { λ r. ⌜ FieldAt Kind.Twin (now (text .entry)) at (endOf end) r ⌝ }
+    ensures { λ r. ⌜ FieldAt Kind.Twin (now (text .entry)) at (endByte end) r ⌝ }
 {
     if pair_at(text, at, b'-', digits::byte(end)) {
         return Found::Words(Few::One(NO_TWIN), at + 2);
@@ -147,7 +147,7 @@ fn twin_at(text: &[u8], at: usize, end: End) -> Found
 
 // A field of the kind from `at` on, then the end.
 pub(crate) fn field_at(text: &[u8], at: usize, kind: Kind, end: End) -> Found
-    ensures { λ r. ⌜ FieldAt kind (now (text .entry)) at (endOf end) r ⌝ }
+    ensures { λ r. ⌜ FieldAt kind (now (text .entry)) at (endByte end) r ⌝ }
 {
     match kind {
         Kind::Hex => one_word(digits::hex_at(text, at, end)),

@@ -3,9 +3,9 @@
 ghost use Prim.Native.Nat.{_*_, _≤_, _<_};
 ghost use lib.ListN.{length, getD};
 ghost use Rattle.measure.specs.Float.{bits};
-ghost use Rattle.gridtext.specs.Rows.{cornerSize, triangleSize};
+ghost use Rattle.gridtext.specs.inner.Rows.{cornerSize, triangleSize};
 ghost use Rattle.gridtext.specs.Text.{mostCornerLines, mostTriangleLines};
-ghost use Rattle.gridtext.specs.Unpacked.{positionAt, slotAt, tripleAt, Front};
+ghost use Rattle.gridtext.specs.inner.Unpacked.{positionAt, slotAt, tripleAt, Front};
 use crate::inner::room;
 use measure::inner::float_of;
 

@@ -3,9 +3,9 @@ ghost use mathlib.Core.Path.{_≡_};
 ghost use Prim.Native.Nat.{_+_, _*_, _≤_, _<_};
 ghost use lib.ListN.{length, set};
 ghost use Rattle.mesh.specs.Lists.{mostCorners};
-ghost use Rattle.laying.specs.Layout.{Given};
-ghost use Rattle.laying.specs.Invariant.{Cover};
-ghost use Rattle.laying.specs.Answers.{Wiped, Cleared};
+ghost use Rattle.laying.specs.inner.Layout.{Given};
+ghost use Rattle.laying.specs.inner.Invariant.{Cover};
+ghost use Rattle.laying.specs.inner.Answers.{Wiped, Cleared};
 use crate::inner::corners::corner_of;
 use words::inner::wide;
 

@@ -2,7 +2,7 @@
 ghost use mathlib.Core.Path.{_≡_};
 ghost use Prim.Native.Nat.{_*_, _<_};
 ghost use Rattle.cells.specs.Cells.{cell};
-ghost use Rattle.laying.specs.Layout.{Given, sense};
+ghost use Rattle.laying.specs.inner.Layout.{Given, sense};
 use words::inner::wide;
 
 // Corner k of quad q.

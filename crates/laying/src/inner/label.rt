@@ -1,9 +1,9 @@
 // The labels of the quads that are reached from a seed.
 ghost use Prim.Native.Nat.{_*_, _≤_, _<_};
 ghost use lib.ListN.{length};
-ghost use Rattle.laying.specs.Layout.{Given, Table, Blank, Unscanned};
-ghost use Rattle.laying.specs.Moves.{Planted};
-ghost use Rattle.laying.specs.Answers.{Labelled};
+ghost use Rattle.laying.specs.inner.Layout.{Given, Table, Blank, Unscanned};
+ghost use Rattle.laying.specs.inner.Moves.{Planted};
+ghost use Rattle.laying.specs.inner.Answers.{Labelled};
 use crate::Walked;
 use crate::inner::corners::corner_of;
 use crate::inner::labels::to_word;

@@ -2,7 +2,7 @@
 ghost use mathlib.Core.Path.{_≡_};
 ghost use Prim.Native.Nat.{_*_, _<_};
 ghost use lib.IntN.{_+ℤ_, _-ℤ_};
-ghost use Rattle.laying.specs.Layout.{centre, label, Word, InRange};
+ghost use Rattle.laying.specs.inner.Layout.{centre, label, Word, InRange};
 
 const CENTRE: i32 = 16384;
 

@@ -4,7 +4,7 @@ ghost use Prim.Native.Nat.{ℕ, _+_, _*_, _≤_};
 ghost use lib.Ieee.{nan, binary32, ofBits};
 ghost use lib.ListN.{length};
 ghost use Rattle.vectors.specs.Hex.{wordAt};
-ghost use Rattle.vectors.specs.Lists.{afterOf, leastOf, lengthAt, givenAt, elementOf, elementAt, nextAt, overAt, Laid, Front, Onward};
+ghost use Rattle.vectors.specs.inner.Lists.{afterOf, leastOf, lengthAt, givenAt, elementOf, elementAt, nextAt, overAt, Laid, Front, Onward};
 use crate::word_at;
 use measure::inner::float_of;
 

@@ -5,7 +5,7 @@ ghost use Prim.Native.Nat.{_<_, _≤_};
 ghost use lib.ListN.{length};
 ghost use Rattle.vectors.specs.Hex.{refusalLine};
 ghost use Rattle.digits.specs.Digits.{decimalOf};
-ghost use Rattle.vectors.specs.Lines.{countLine, countsLine, runsOf, Run};
+ghost use Rattle.vectors.specs.inner.Lines.{countLine, countsLine, runsOf, Run};
 use refusal::Refusal;
 
 // The line's number of bytes.

@@ -1,5 +1,7 @@
--- `tell_cache` is `cacheFrom`, arm by arm.
+-- `tell_cache` is `cacheFrom` of `cachedTold`, arm by arm.
 use mathlib.Core.Path.{sym, ap}
+use Rattle.axis.specs.declared.Cached.{Cached}
+use Rattle.axis.specs.Cache.{cachedTold}
 use Rattle.abi.specs.Answers.{cacheFrom}
 use borrow.Author.Needs.{needs}
 use Rattle.abi.proofs.tell.tell_cache.Statement.{statement}
@@ -24,10 +26,10 @@ place-requires : tie.Need-place-requires
 place-requires c κs = search needs
 
 returns : tie.Need-returns
-returns c = rw (c .word-from2 .ensures, c .before .word-from .ensures) (ap cacheFrom (sym (c .before .before .before .answer .given .1)))
+returns c = rw (c .word-from2 .ensures, c .before .word-from .ensures) (ap (λ (a : Cached). cacheFrom (cachedTold a)) (sym (c .before .before .before .answer .given .1)))
 
 returns-2 : tie.Need-returns-2
-returns-2 c = rw (c .place .ensures, c .before .number .ensures) (ap cacheFrom (sym (c .before .before .before .answer2 .given .1)))
+returns-2 c = rw (c .place .ensures, c .before .number .ensures) (ap (λ (a : Cached). cacheFrom (cachedTold a)) (sym (c .before .before .before .answer2 .given .1)))
 
 pub tell-cache-spec : {M : Type 1} → statement M
 tell-cache-spec =

@@ -1,5 +1,7 @@
--- `tell_classified` is `verdictFrom`, arm by arm.
+-- `tell_classified` is `verdictFrom` of `classifiedTold`, arm by arm.
 use mathlib.Core.Path.{sym, ap}
+use Rattle.classify.specs.declared.Classified.{Classified}
+use Rattle.classify.specs.Call.{classifiedTold}
 use Rattle.abi.specs.Answers.{verdictFrom}
 use borrow.Author.Needs.{needs}
 use Rattle.abi.proofs.tell.tell_classified.Statement.{statement}
@@ -18,10 +20,10 @@ place-requires : tie.Need-place-requires
 place-requires c κs = search needs
 
 returns : tie.Need-returns
-returns c = ap verdictFrom (sym (c .enum-told .given .1))
+returns c = ap (λ (a : Classified). verdictFrom (classifiedTold a)) (sym (c .enum-told .given .1))
 
 returns-2 : tie.Need-returns-2
-returns-2 c = rw (c .place .ensures, c .before .number .ensures) (ap verdictFrom (sym (c .before .before .before .answer .given .1)))
+returns-2 c = rw (c .place .ensures, c .before .number .ensures) (ap (λ (a : Classified). verdictFrom (classifiedTold a)) (sym (c .before .before .before .answer .given .1)))
 
 pub tell-classified-spec : {M : Type 1} → statement M
 tell-classified-spec =

@@ -1,5 +1,7 @@
--- `tell_filtered` is `countFrom`, arm by arm.
+-- `tell_filtered` is `countFrom` of `filteredTold`, arm by arm.
 use mathlib.Core.Path.{sym, ap}
+use Rattle.filter.specs.declared.Filtered.{Filtered}
+use Rattle.filter.specs.Call.{filteredTold}
 use Rattle.abi.specs.Answers.{countFrom}
 use borrow.Author.Needs.{needs}
 use Rattle.abi.proofs.tell.tell_filtered.Statement.{statement}
@@ -18,10 +20,10 @@ place-requires : tie.Need-place-requires
 place-requires c κs = search needs
 
 returns : tie.Need-returns
-returns c = ap countFrom (sym (c .before .answer .given .1))
+returns c = ap (λ (a : Filtered). countFrom (filteredTold a)) (sym (c .before .answer .given .1))
 
 returns-2 : tie.Need-returns-2
-returns-2 c = rw (c .place .ensures, c .before .number .ensures) (ap countFrom (sym (c .before .before .before .answer2 .given .1)))
+returns-2 c = rw (c .place .ensures, c .before .number .ensures) (ap (λ (a : Filtered). countFrom (filteredTold a)) (sym (c .before .before .before .answer2 .given .1)))
 
 pub tell-filtered-spec : {M : Type 1} → statement M
 tell-filtered-spec =

@@ -1,5 +1,7 @@
--- `tell_labelled` is `countsFrom`, arm by arm.
+-- `tell_labelled` is `countsFrom` of `labelledTold`, arm by arm.
 use mathlib.Core.Path.{sym, ap}
+use Rattle.walk.specs.declared.Labelled.{Labelled}
+use Rattle.walk.specs.Call.{labelledTold}
 use Rattle.abi.specs.Answers.{countsFrom}
 use borrow.Author.Needs.{needs}
 use Rattle.abi.proofs.tell.tell_labelled.Statement.{statement}
@@ -18,10 +20,10 @@ place-requires : tie.Need-place-requires
 place-requires c κs = search needs
 
 returns : tie.Need-returns
-returns c = ap countsFrom (sym (c .before .answer .given .1))
+returns c = ap (λ (a : Labelled). countsFrom (labelledTold a)) (sym (c .before .answer .given .1))
 
 returns-2 : tie.Need-returns-2
-returns-2 c = rw (c .place .ensures, c .before .number .ensures) (ap countsFrom (sym (c .before .before .before .answer2 .given .1)))
+returns-2 c = rw (c .place .ensures, c .before .number .ensures) (ap (λ (a : Labelled). countsFrom (labelledTold a)) (sym (c .before .before .before .answer2 .given .1)))
 
 pub tell-labelled-spec : {M : Type 1} → statement M
 tell-labelled-spec =

@@ -1,6 +1,8 @@
--- `tell_merged` is `madeFrom`, arm by arm.
+-- `tell_merged` is `countFrom` of `mergedTold`, arm by arm.
 use mathlib.Core.Path.{sym, ap}
-use Rattle.abi.specs.Answers.{madeFrom}
+use Rattle.quads.specs.declared.Merged.{Merged}
+use Rattle.quads.specs.Call.{mergedTold}
+use Rattle.abi.specs.Answers.{countFrom}
 use borrow.Author.Needs.{needs}
 use Rattle.abi.proofs.tell.tell_merged.Statement.{statement}
 use Rattle.abi.proofs.tell.tell_merged.Tie as tie
@@ -18,10 +20,10 @@ place-requires : tie.Need-place-requires
 place-requires c κs = search needs
 
 returns : tie.Need-returns
-returns c = ap madeFrom (sym (c .before .answer .given .1))
+returns c = ap (λ (a : Merged). countFrom (mergedTold a)) (sym (c .before .answer .given .1))
 
 returns-2 : tie.Need-returns-2
-returns-2 c = rw (c .place .ensures, c .before .number .ensures) (ap madeFrom (sym (c .before .before .before .answer2 .given .1)))
+returns-2 c = rw (c .place .ensures, c .before .number .ensures) (ap (λ (a : Merged). countFrom (mergedTold a)) (sym (c .before .before .before .answer2 .given .1)))
 
 pub tell-merged-spec : {M : Type 1} → statement M
 tell-merged-spec =

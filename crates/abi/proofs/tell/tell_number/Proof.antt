@@ -1,5 +1,7 @@
--- `tell_number` is `numberFrom`, arm by arm.
+-- `tell_number` is `numberFrom` of `measuredTold`, arm by arm.
 use mathlib.Core.Path.{sym, ap}
+use Rattle.measure.specs.declared.Measured.{Measured}
+use Rattle.measure.specs.Answers.{measuredTold}
 use Rattle.abi.specs.Answers.{numberFrom}
 use borrow.Author.Needs.{needs}
 use Rattle.abi.proofs.tell.tell_number.Statement.{statement}
@@ -18,10 +20,10 @@ place-requires : tie.Need-place-requires
 place-requires c κs = search needs
 
 returns : tie.Need-returns
-returns c = ap numberFrom (sym (c .before .answer .given .1))
+returns c = ap (λ (a : Measured). numberFrom (measuredTold a)) (sym (c .before .answer .given .1))
 
 returns-2 : tie.Need-returns-2
-returns-2 c = rw (c .place .ensures, c .before .number .ensures) (ap numberFrom (sym (c .before .before .before .answer2 .given .1)))
+returns-2 c = rw (c .place .ensures, c .before .number .ensures) (ap (λ (a : Measured). numberFrom (measuredTold a)) (sym (c .before .before .before .answer2 .given .1)))
 
 pub tell-number-spec : {M : Type 1} → statement M
 tell-number-spec =

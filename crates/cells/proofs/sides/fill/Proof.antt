@@ -2,7 +2,7 @@
 use mathlib.Core.Path.{refl}
 use Prim.Native.Nat.{_+_, _*_, _-_, _≤_, _<_}
 use native.Mathlib.Omega.{arith}
-use Rattle.cells.specs.Sides.{Tabled}
+use Rattle.cells.specs.inner.Sides.{Tabled}
 use Rattle.cells.proofs.Places.{first-place, cell-before}
 use Rattle.cells.proofs.Tables.{tabled-none, tabled-more, tabled-all}
 use borrow.Author.Needs.{needs}

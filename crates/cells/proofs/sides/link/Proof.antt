@@ -1,9 +1,9 @@
 -- `link`: each turn takes one pair of neighbours more; with m records there are m - 1 pairs.
 use mathlib.Core.Path.{_≡_}
 use Prim.Native.Nat.{_≤_, _-_}
-use Rattle.cells.specs.Sides.{United}
+use Rattle.cells.specs.inner.Sides.{United}
 use native.Mathlib.Omega.{arith}
-use Rattle.cells.proofs.Near.{still-ready, still-classes, united-none, united-then}
+use Rattle.cells.proofs.Adjacent.{still-ready, still-classes, united-none, united-then}
 use borrow.Author.Needs.{needs}
 use Rattle.cells.proofs.sides.link.Statement.{statement}
 use Rattle.cells.proofs.sides.link.Tie as tie

@@ -3,7 +3,7 @@ use mathlib.Core.Path.{ap}
 use Prim.Native.Nat.{ℕ, _+_, _/_}
 use native.Mathlib.Omega.{arith}
 use Rattle.cells.proofs.Part.{groups-length}
-use Rattle.cells.proofs.Near.{next-number, no-side, two-keys, one-key}
+use Rattle.cells.proofs.Adjacent.{next-number, no-side, two-keys, one-key}
 use borrow.Author.Needs.{needs}
 use Rattle.cells.proofs.sides.link_at.Statement.{statement}
 use Rattle.cells.proofs.sides.link_at.Tie as tie

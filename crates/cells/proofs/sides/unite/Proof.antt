@@ -1,7 +1,7 @@
 -- `unite`: the classes begin with each cell alone, `link` takes the neighbours in, and at the end each cell points at its lowest.
 use native.Mathlib.Nat.{le-refl}
 use native.Mathlib.Omega.{arith}
-use Rattle.cells.proofs.Near.{still-ready, still-classes, united-alone, united-then, named-flat}
+use Rattle.cells.proofs.Adjacent.{still-ready, still-classes, united-alone, united-then, named-flat}
 use borrow.Author.Needs.{needs}
 use Rattle.cells.proofs.sides.unite.Statement.{statement}
 use Rattle.cells.proofs.sides.unite.Tie as tie

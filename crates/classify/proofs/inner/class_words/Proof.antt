@@ -1,5 +1,5 @@
 -- `class_words` is `classWords`: three judgements, each class by its own and the next two.
-use Rattle.classify.specs.Match.{classWords}
+use Rattle.classify.specs.inner.Triangle.{classWords}
 use borrow.Author.Needs.{needs}
 use Rattle.classify.proofs.inner.class_words.Statement.{statement}
 use Rattle.classify.proofs.inner.class_words.Tie as tie

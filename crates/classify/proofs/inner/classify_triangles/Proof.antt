@@ -10,7 +10,8 @@ use Rattle.words.proofs.Front.{Front}
 use Rattle.words.proofs.Listing.{is-listing}
 use Rattle.classify.specs.declared.EdgeParams.{EdgeParams}
 use Rattle.classify.specs.declared.Words.{Words}
-use Rattle.classify.specs.Match.{classNumber, classWords}
+use Rattle.classify.specs.Match.{classNumber}
+use Rattle.classify.specs.inner.Triangle.{classWords}
 use Rattle.classify.specs.Classes.{Input, classAt, classesOf}
 use Rattle.classify.proofs.Triangle.{first-word, second-word, third-word, three-more}
 use borrow.Author.Needs.{needs}

@@ -3,9 +3,9 @@ use mathlib.Core.Path.{_≡_, refl, _∙_}
 use Prim.Native.Nat.{_-_, _≤_}
 use native.Mathlib.Omega.{arith}
 use lib.ListN.{length}
+use Rattle.cells.specs.Listed.{groupingBy}
 use Rattle.fates.specs.declared.LabelParams.{LabelParams}
-use Rattle.fates.specs.Fates.{groupingBy}
-use Rattle.fates.specs.Gathering.{numbersIn, Underway}
+use Rattle.fates.specs.inner.Gathering.{numbersIn, Underway}
 use Rattle.fates.proofs.Fated.{underway-start}
 use borrow.Author.Needs.{needs}
 use Rattle.fates.proofs.gather.gather.Statement.{statement}
@@ -13,7 +13,7 @@ use Rattle.fates.proofs.gather.gather.Tie as tie
 
 abbrev Inv-loop : tie.InvT-loop
 Inv-loop quads work₀ span n m₀ seed₀ work m seed =
-    (seed ≤ n) × (length work ≡ length work₀) × ((params : LabelParams) → Underway span quads (groupingBy n (numbersIn span n work₀) params) seed m work)
+    (seed ≤ n) × (length work ≡ length work₀) × ((params : LabelParams) → Underway span quads (groupingBy n (numbersIn span n work₀) (params .quads) (params .corners)) seed m work)
 
 -- the walks do not look at these
 any : LabelParams

@@ -1,5 +1,5 @@
 -- `fate_at`: by the two words of the quad.
-use Rattle.fates.specs.Judged.{fateFrom}
+use Rattle.fates.specs.inner.FateWords.{fateFrom}
 use Rattle.fates.proofs.FateWords.{beyond-three}
 use mathlib.Core.Path.{sym}
 use borrow.Author.Needs.{needs}

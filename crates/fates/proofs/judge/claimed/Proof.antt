@@ -4,7 +4,7 @@ use Prim.Native.Nat.{_-_, _≤_}
 use native.Mathlib.Omega.{arith}
 use Rattle.cells.specs.Counted.{Exactly}
 use Rattle.cells.proofs.Counted.{Below, below-none, below-passed, below-more, exactly-same}
-use Rattle.fates.specs.Judging.{Begins}
+use Rattle.fates.specs.inner.Judging.{Begins}
 use borrow.Author.Needs.{needs}
 use Rattle.fates.proofs.judge.claimed.Statement.{statement}
 use Rattle.fates.proofs.judge.claimed.Tie as tie

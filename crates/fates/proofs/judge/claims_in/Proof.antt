@@ -1,5 +1,5 @@
 -- `claims_in`: by the arms.
-use Rattle.fates.specs.Judged.{claimedIn}
+use Rattle.fates.specs.inner.FateWords.{claimedIn}
 use borrow.Author.Needs.{needs}
 use Rattle.fates.proofs.judge.claims_in.Statement.{statement}
 use Rattle.fates.proofs.judge.claims_in.Tie as tie

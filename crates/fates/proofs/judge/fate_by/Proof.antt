@@ -1,6 +1,6 @@
 -- `fate_by`: the test that held is the first that applies.
 use native.Mathlib.Omega.{arith}
-use Rattle.fates.specs.Judging.Falls.{not-lowest, few-quads, no-labelling, few-lone, kept}
+use Rattle.fates.specs.inner.Judging.Falls.{not-lowest, few-quads, no-labelling, few-lone, kept}
 use borrow.Author.Needs.{needs}
 use Rattle.fates.proofs.judge.fate_by.Statement.{statement}
 use Rattle.fates.proofs.judge.fate_by.Tie as tie

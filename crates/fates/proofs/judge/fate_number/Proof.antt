@@ -1,5 +1,5 @@
 -- `fate_number`: by the arms.
-use Rattle.fates.specs.Judged.{fateNumber}
+use Rattle.fates.specs.inner.FateWords.{fateNumber}
 use borrow.Author.Needs.{needs}
 use Rattle.fates.proofs.judge.fate_number.Statement.{statement}
 use Rattle.fates.proofs.judge.fate_number.Tie as tie

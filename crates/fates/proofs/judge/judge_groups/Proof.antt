@@ -2,8 +2,8 @@
 use mathlib.Core.Path.{_≡_}
 use Prim.Native.Nat.{_-_, _≤_}
 use native.Mathlib.Omega.{arith}
-use Rattle.fates.specs.Fates.{recordsAt, loneAt}
-use Rattle.fates.specs.Judging.{Cursor, Judges}
+use Rattle.fates.specs.inner.Fates.{recordsAt, loneAt}
+use Rattle.fates.specs.inner.Judging.{Cursor, Judges}
 use Rattle.fates.proofs.Stretches.{cursor-start, cursor-next}
 use Rattle.fates.proofs.Verdicts.{judges-none, spacious, all-lined, lone-lined, all-back, lone-back, within, judges-more}
 use borrow.Author.Needs.{needs}

@@ -2,7 +2,7 @@
 use mathlib.Core.Path.{_≡_, sym, _∙_}
 use Prim.Native.Nat.{ℕ, _-_, _≤_, _<_}
 use native.Mathlib.Omega.{arith}
-use Rattle.fates.specs.Fates.{seedIn}
+use Rattle.fates.specs.inner.Fates.{seedIn}
 use Rattle.fates.proofs.Stretches.{stretch-more, stretch-ends}
 use borrow.Author.Needs.{needs}
 use Rattle.fates.proofs.judge.run_end.Statement.{statement}

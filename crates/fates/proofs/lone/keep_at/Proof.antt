@@ -1,6 +1,6 @@
 -- `keep_at`: by its test.
 use mathlib.Core.Path.{refl}
-use Rattle.fates.specs.Singles.Taken.{left, took}
+use Rattle.fates.specs.inner.Singles.Picks.{left, took}
 use borrow.Author.Needs.{needs}
 use Rattle.fates.proofs.lone.keep_at.Statement.{statement}
 use Rattle.fates.proofs.lone.keep_at.Tie as tie

@@ -2,8 +2,8 @@
 use mathlib.Core.Path.{_≡_}
 use Prim.Native.Nat.{_*_, _-_, _≤_}
 use native.Mathlib.Omega.{arith}
-use Rattle.words.specs.Regions.{Kept}
-use Rattle.fates.specs.Singles.{Picked}
+use Rattle.words.specs.inner.Regions.{Kept}
+use Rattle.fates.specs.inner.Singles.{Picked}
 use Rattle.fates.proofs.Picking.{same-room, rising-kept, picked-none, picked-more}
 use borrow.Author.Needs.{needs}
 use Rattle.fates.proofs.lone.keep_lone.Statement.{statement}

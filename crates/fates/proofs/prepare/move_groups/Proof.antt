@@ -3,9 +3,9 @@ use mathlib.Core.Path.{_≡_}
 use Prim.Native.Nat.{ℕ, _+_, _*_, _-_, _≤_}
 use native.Mathlib.Omega.{arith}
 use lib.ListN.{getD}
-use Rattle.words.specs.Regions.{Filled}
+use Rattle.words.specs.inner.Regions.{Filled}
 use Rattle.words.proofs.Regions.{filled-more}
-use Rattle.fates.specs.Fates.{groupsAt}
+use Rattle.fates.specs.inner.Fates.{groupsAt}
 use borrow.Author.Needs.{needs}
 use Rattle.fates.proofs.prepare.move_groups.Statement.{statement}
 use Rattle.fates.proofs.prepare.move_groups.Tie as tie

@@ -1,6 +1,6 @@
 -- `run_start`: a new key begins a run.
 use mathlib.Core.Path.{refl}
-use Rattle.fates.specs.Runs.Started.{new, old}
+use Rattle.fates.specs.inner.Runs.Started.{new, old}
 use borrow.Author.Needs.{needs}
 use Rattle.fates.proofs.prepare.run_start.Statement.{statement}
 use Rattle.fates.proofs.prepare.run_start.Tie as tie

@@ -2,8 +2,8 @@
 use mathlib.Core.Path.{_≡_, _∙_}
 use Prim.Native.Nat.{_+_, _*_, _-_, _≤_, _<_}
 use native.Mathlib.Omega.{arith}
-use Rattle.laying.specs.Layout.{keyAt, numberAt}
-use Rattle.fates.specs.Runs.{Begin, Told}
+use Rattle.laying.specs.inner.Layout.{keyAt, numberAt}
+use Rattle.fates.specs.inner.Runs.{Begin, Told}
 use Rattle.fates.proofs.RunStarts.{Ahead, ahead-none, begins, told-none, told-more, same-number, started-same}
 use borrow.Author.Needs.{needs}
 use Rattle.fates.proofs.prepare.tell_runs.Statement.{statement}

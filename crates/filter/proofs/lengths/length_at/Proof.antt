@@ -1,5 +1,5 @@
 -- `length_at` is `lengthIn`.
-use Rattle.filter.specs.Steps.{lengthIn}
+use Rattle.filter.specs.inner.Steps.{lengthIn}
 use borrow.Author.Needs.{needs}
 use Rattle.filter.proofs.lengths.length_at.Statement.{statement}
 use Rattle.filter.proofs.lengths.length_at.Tie as tie

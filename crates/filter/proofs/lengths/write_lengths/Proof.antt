@@ -3,10 +3,10 @@ use mathlib.Core.Path.{_≡_}
 use Prim.Native.Nat.{_/_, _-_, _≤_}
 use native.Mathlib.Omega.{arith}
 use lib.ListN.{length}
-use Rattle.words.specs.Regions.{Filled}
+use Rattle.words.specs.inner.Regions.{Filled}
 use Rattle.words.proofs.Regions.{filled-none, filled-more}
-use Rattle.filter.specs.Layout.{lengthsAt}
-use Rattle.filter.specs.Steps.{sideWord}
+use Rattle.filter.specs.inner.Layout.{lengthsAt}
+use Rattle.filter.specs.inner.Steps.{sideWord}
 use borrow.Author.Needs.{needs}
 use Rattle.filter.proofs.lengths.write_lengths.Statement.{statement}
 use Rattle.filter.proofs.lengths.write_lengths.Tie as tie

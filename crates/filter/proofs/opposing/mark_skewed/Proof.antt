@@ -2,9 +2,9 @@
 use mathlib.Core.Path.{_≡_, _∙_}
 use Prim.Native.Nat.{_-_, _≤_}
 use native.Mathlib.Omega.{arith}
-use Rattle.words.specs.Regions.{Filled}
+use Rattle.words.specs.inner.Regions.{Filled}
 use Rattle.words.proofs.Regions.{filled-none, filled-grow}
-use Rattle.filter.specs.Steps.{skewMark}
+use Rattle.filter.specs.inner.Steps.{skewMark}
 use Rattle.filter.proofs.Skew.{skew-later}
 use borrow.Author.Needs.{needs}
 use Rattle.filter.proofs.opposing.mark_skewed.Statement.{statement}

@@ -1,5 +1,5 @@
--- `ratio` is `ratioOf`.
-use Rattle.filter.specs.Opposing.{ratioOf}
+-- `ratio` is `sideRatio`.
+use Rattle.filter.specs.Opposing.{sideRatio}
 use borrow.Author.Needs.{needs}
 use Rattle.filter.proofs.opposing.ratio.Statement.{statement}
 use Rattle.filter.proofs.opposing.ratio.Tie as tie
@@ -14,7 +14,7 @@ over-requires : tie.Need-over-requires
 over-requires c κs = search needs
 
 returns : tie.Need-returns
-unfolding ratioOf
+unfolding sideRatio
 returns c = rw (c .over .ensures, c .before .lesser .ensures, c .before .before .greater .ensures)
 
 pub ratio-spec : {M : Type 1} → statement M

@@ -1,6 +1,6 @@
 -- `skew_mark` is `skewMark`: a mark that is set stays, else the lengths decide.
 use borrow.Author.Tests.{eq-eqb, ne-eqb}
-use Rattle.filter.specs.Steps.{skewMark}
+use Rattle.filter.specs.inner.Steps.{skewMark}
 use borrow.Author.Needs.{needs}
 use Rattle.filter.proofs.opposing.skew_mark.Statement.{statement}
 use Rattle.filter.proofs.opposing.skew_mark.Tie as tie

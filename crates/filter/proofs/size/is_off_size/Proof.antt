@@ -6,7 +6,7 @@ use native.Mathlib.Omega.{arith}
 use Rattle.mesh.specs.Cells.{some}
 use Rattle.mesh.proofs.Some.{some-none, some-more, some-hit}
 use Rattle.filter.specs.Size.{offSide, offSize}
-use Rattle.filter.specs.Steps.{lengthIn}
+use Rattle.filter.specs.inner.Steps.{lengthIn}
 use Rattle.filter.proofs.Literal.{zero-bits}
 use borrow.Author.Needs.{needs}
 use Rattle.filter.proofs.size.is_off_size.Statement.{statement}

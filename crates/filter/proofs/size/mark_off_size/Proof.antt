@@ -1,7 +1,7 @@
 -- `mark_off_size`: skipped, or the marks by what was weighed; a group's number is below n, since it is no higher than its quads.
 use mathlib.Core.Path.{refl, sym, _∙_}
 use native.Mathlib.Omega.{arith}
-use Rattle.filter.specs.Steps.Sized.{idle, weighed}
+use Rattle.filter.specs.inner.Steps.Sized.{idle, weighed}
 use borrow.Author.Needs.{needs}
 use Rattle.filter.proofs.size.mark_off_size.Statement.{statement}
 use Rattle.filter.proofs.size.mark_off_size.Tie as tie

@@ -2,9 +2,9 @@
 use mathlib.Core.Path.{_≡_, _∙_}
 use Prim.Native.Nat.{_+_, _-_, _≤_}
 use native.Mathlib.Omega.{arith}
-use Rattle.words.specs.Regions.{Filled}
+use Rattle.words.specs.inner.Regions.{Filled}
 use Rattle.words.proofs.Regions.{filled-none, filled-grow, kept-past}
-use Rattle.filter.specs.Steps.{sizeMark}
+use Rattle.filter.specs.inner.Steps.{sizeMark}
 use Rattle.filter.proofs.Sizes.{size-later}
 use borrow.Author.Needs.{needs}
 use Rattle.filter.proofs.size.mark_sizes.Statement.{statement}

@@ -2,8 +2,8 @@
 use mathlib.Core.Path.{_≡_}
 use Prim.Native.Nat.{ℕ, _*_, _-_, _≤_, _<_}
 use native.Mathlib.Omega.{arith}
-use Rattle.words.specs.Order.{wordOf}
-use Rattle.cells.specs.Table.{tableAt}
+use Rattle.words.specs.inner.Order.{wordOf}
+use Rattle.cells.specs.inner.Table.{tableAt}
 use Rattle.filter.proofs.Runs.{alike-more, run-ends}
 use borrow.Author.Needs.{needs}
 use Rattle.filter.proofs.size.run_end.Statement.{statement}

@@ -1,6 +1,6 @@
 -- `size_mark` is `sizeMark`: a mark that is set stays, else the median and the lengths decide.
 use borrow.Author.Tests.{eq-eqb, ne-eqb}
-use Rattle.filter.specs.Steps.{medianIn, sizeMark}
+use Rattle.filter.specs.inner.Steps.{medianIn, sizeMark}
 use borrow.Author.Needs.{needs}
 use Rattle.filter.proofs.size.size_mark.Statement.{statement}
 use Rattle.filter.proofs.size.size_mark.Tie as tie

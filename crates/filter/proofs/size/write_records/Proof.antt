@@ -2,7 +2,7 @@
 use mathlib.Core.Path.{_≡_}
 use Prim.Native.Nat.{_*_, _-_, _≤_}
 use native.Mathlib.Omega.{arith}
-use Rattle.filter.specs.Steps.{Recorded}
+use Rattle.filter.specs.inner.Steps.{Recorded}
 use Rattle.filter.proofs.Records.{recorded-none, recorded-more}
 use borrow.Author.Needs.{needs}
 use Rattle.filter.proofs.size.write_records.Statement.{statement}

@@ -3,7 +3,7 @@ use mathlib.Core.Path.{_≡_, _∙_}
 use Prim.Native.Nat.{ℕ, _/_, _-_, _≤_}
 use native.Mathlib.Omega.{arith}
 use lib.ListN.{length}
-use Rattle.words.specs.Regions.{Filled}
+use Rattle.words.specs.inner.Regions.{Filled}
 use Rattle.words.proofs.Regions.{filled-none, filled-grow, kept-past}
 use Rattle.words.specs.Sorting.{one}
 use Rattle.filter.specs.Topology.{crowded}

@@ -7,7 +7,7 @@ use lib.ListN.{length, getD, take}
 use lib.Seq.{getD-take}
 use Rattle.gridtext.specs.Lines.{ParamsLine}
 use Rattle.gridtext.specs.Lists.{paramsOf}
-use Rattle.gridtext.specs.Read.{paramWords}
+use Rattle.gridtext.specs.inner.Read.{paramWords}
 use borrow.Author.Needs.{needs}
 use Rattle.gridtext.proofs.inner.params_of.Statement.{statement}
 use Rattle.gridtext.proofs.inner.params_of.Tie as tie

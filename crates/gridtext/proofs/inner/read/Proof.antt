@@ -1,7 +1,7 @@
 -- `read` answers the first bad line, or the frame: what the three readers found is a text's beginning, and what follows it decides.
 use mathlib.Core.Path.{refl}
 use native.Mathlib.Omega.{arith}
-use Rattle.gridtext.specs.Read.{Parses}
+use Rattle.gridtext.specs.inner.Read.{Parses}
 use Rattle.gridtext.proofs.Runs.{line-missing}
 use Rattle.gridtext.proofs.Outcomes.{bad-first, line-within, found-three, reads-all, bad-behind, corner-count, triangle-count, corners-laid, triangles-laid, frame-is}
 use borrow.Author.Needs.{needs}

@@ -2,7 +2,7 @@
 use mathlib.Core.Path.{refl}
 use native.Mathlib.Omega.{arith}
 use lib.ListN.{length-set}
-use Rattle.laying.specs.Settling.Settled.{fresh, same, other}
+use Rattle.laying.specs.inner.Settling.Settled.{fresh, same, other}
 use borrow.Author.Needs.{needs}
 use Rattle.laying.proofs.settle.settle.Statement.{statement}
 use Rattle.laying.proofs.settle.settle.Tie as tie

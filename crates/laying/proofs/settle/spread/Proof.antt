@@ -7,7 +7,7 @@ use mir.Syntax.{w32}
 use mir.Val.{toZ, ofZ}
 use Rattle.cells.proofs.Whole.{minus}
 use Rattle.mesh.specs.Lists.{mostCorners}
-use Rattle.laying.specs.Layout.{centre, label, Word, InRange, Near}
+use Rattle.laying.specs.inner.Layout.{centre, label, Word, InRange, Near}
 use Rattle.laying.proofs.Reading.{same-word, far-word, step-fits, machine-step}
 use borrow.Author.Needs.{needs}
 use Rattle.laying.proofs.settle.spread.Statement.{statement}

@@ -1,6 +1,6 @@
 -- `meet`: its two tests are `Across`.
 use mathlib.Core.Path.{sym, _∙_}
-use Rattle.laying.specs.Invariant.{Meets}
+use Rattle.laying.specs.inner.Invariant.{Meets}
 use Rattle.laying.proofs.Parts.{went-none}
 use borrow.Author.Needs.{needs}
 use Rattle.laying.proofs.steps.meet.Statement.{statement}

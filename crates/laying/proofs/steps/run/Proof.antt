@@ -1,7 +1,7 @@
 -- `run`: one quad of the queue after the other, until there is none left.
 use Prim.Native.Nat.{_+_, _-_, _<_, _≤_}
 use native.Mathlib.Omega.{arith}
-use Rattle.laying.specs.Moves.{stuck, Rest, Goes, Closed}
+use Rattle.laying.specs.inner.Moves.{stuck, Rest, Goes, Closed}
 use Rattle.laying.proofs.Resting.{rest-refl, rest-trans, table-rest}
 use Rattle.laying.proofs.Stepping.{tail-le}
 use Rattle.laying.proofs.Parts.{grows-refl, went-stuck, went-whole, goes-on, closed-next}

@@ -2,9 +2,9 @@
 use mathlib.Core.Path.{sym, ap, _∙_}
 use Prim.Native.Nat.{ℕ, _+_, _*_, _-_, _/_, _<_, _≤_}
 use native.Mathlib.Omega.{arith}
-use Rattle.laying.specs.Layout.{keyAt, runOf}
-use Rattle.laying.specs.Invariant.{Met}
-use Rattle.laying.specs.Moves.{stuck, Rest, Goes}
+use Rattle.laying.specs.inner.Layout.{keyAt, runOf}
+use Rattle.laying.specs.inner.Invariant.{Met}
+use Rattle.laying.specs.inner.Moves.{stuck, Rest, Goes}
 use Rattle.laying.proofs.Resting.{rest-refl, rest-trans, rest-low}
 use Rattle.laying.proofs.Stepping.{tail-le}
 use Rattle.laying.proofs.Parts.{grows-refl, went-stuck, went-whole, goes-on, Ran, ran-next, ran-all}

@@ -4,8 +4,8 @@ use native.Mathlib.Omega.{arith}
 use lib.ListN.{getD}
 use Rattle.cells.specs.Kind.{Reached}
 use Rattle.cells.specs.Quads.{quads}
-use Rattle.laying.specs.Layout.{flagsAt, flagOf, startOf, endOf, sense, Scanned}
-use Rattle.laying.specs.Invariant.{Met}
+use Rattle.laying.specs.inner.Layout.{flagsAt, flagOf, sideStart, sideEnd, sense, Scanned}
+use Rattle.laying.specs.inner.Invariant.{Met}
 use Rattle.laying.proofs.Flagged.{is-sense, sense-range}
 use Rattle.laying.proofs.Stepping.{reached-at}
 use Rattle.laying.proofs.Parts.{went-none}
@@ -74,7 +74,7 @@ slice-read-flag c =
 sense-small : (c : tie.After-sense-of) → (0 < c .sense-of .result) × (c .sense-of .result < 3)
 sense-small c =
     let s = c .before .before .before in
-    rw (c .sense-of .ensures) (sense-range (is-sense (startOf (s .args .quads .now) (s .args .e)) (endOf (s .args .quads .now) (s .args .e))))
+    rw (c .sense-of .ensures) (sense-range (is-sense (sideStart (s .args .quads .now) (s .args .e)) (sideEnd (s .args .quads .now) (s .args .e))))
 
 div-if1 : tie.Need-div-if1
 div-if1 c = omega (arith, sense-small (c .before .before .before))

@@ -2,7 +2,7 @@
 use mathlib.Core.Path.{_≡_, refl}
 use Prim.Native.Nat.{_+_, _*_, _-_, _/_, _<_, _≤_}
 use native.Mathlib.Omega.{arith}
-use Rattle.laying.specs.Moves.{stuck, Rest, Goes, MetRound}
+use Rattle.laying.specs.inner.Moves.{stuck, Rest, Goes, MetRound}
 use Rattle.laying.proofs.Resting.{rest-refl, rest-trans, table-rest}
 use Rattle.laying.proofs.Stepping.{tail-le}
 use Rattle.laying.proofs.Parts.{grows-refl, went-stuck, went-whole, goes-on, round-next}

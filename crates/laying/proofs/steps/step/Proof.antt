@@ -2,7 +2,7 @@
 use Prim.Native.Nat.{_/_, _<_}
 use native.Mathlib.Omega.{arith}
 use lib.ListN.{length-set}
-use Rattle.laying.specs.Invariant.{Meets}
+use Rattle.laying.specs.inner.Invariant.{Meets}
 use Rattle.laying.proofs.Stepping.{room-for, step-ends, went-on, went-wrong}
 use Rattle.laying.proofs.Parts.{went-none}
 use borrow.Author.Needs.{needs}

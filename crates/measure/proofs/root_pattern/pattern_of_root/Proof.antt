@@ -1,7 +1,7 @@
 -- `pattern_of_root`: the power of two is split evenly between the exponent of the answer and the number whose root is taken.
 use Rattle.measure.proofs.Moves.{halved}
 use Rattle.measure.proofs.NearPattern.{near-pattern}
-use Rattle.measure.specs.Pattern.{RootBits}
+use Rattle.measure.specs.inner.RootSteps.{RootBits}
 use native.Mathlib.Omega.{arith}
 use Prim.Native.Nat.{ℕ, _+_, _-_, _*_, _/_}
 use mathlib.Core.Path.{_≡_, subst}

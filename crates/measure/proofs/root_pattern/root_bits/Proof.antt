@@ -1,7 +1,8 @@
 -- `root_bits`: the significand moved to 32 bits and the exponent that goes with it make the units of the pattern, times 2^151.
 use Rattle.measure.proofs.Moves.{moved, room-lt, kept}
 use Rattle.measure.proofs.Patterns.{sig-pos, exp-le, units-is}
-use Rattle.measure.specs.Pattern.{sigOf, units, RootBits}
+use Rattle.measure.specs.Pattern.{sigOf, units}
+use Rattle.measure.specs.inner.RootSteps.{RootBits}
 use native.Mathlib.Omega.{arith}
 use Prim.Native.Nat.{ℕ, _+_, _-_, _*_, _%_, _^_, _<_, _≤_}
 use mathlib.Core.Path.{_≡_, sym, ap, _∙_, subst}

@@ -2,7 +2,7 @@
 use Prim.Native.Nat.{_≤_, _-_, _+_}
 use mathlib.Core.Path.{_≡_, sym, _∙_}
 use native.Mathlib.Omega.{arith}
-use Rattle.quads.specs.Diagonal.{seenOf}
+use Rattle.quads.specs.inner.Search.{seenOf}
 use Rattle.quads.proofs.Seen.{seen-more, stopped-at}
 use borrow.Author.Needs.{needs}
 use Rattle.quads.proofs.diagonal.only_side.Statement.{statement}

@@ -1,6 +1,6 @@
 -- `step` is `stepOf`, class by class.
 use borrow.Author.Tests.{eq-eqb, ne-eqb}
-use Rattle.quads.specs.Diagonal.{stepOf}
+use Rattle.quads.specs.inner.Search.{stepOf}
 use borrow.Author.Needs.{needs}
 use Rattle.quads.proofs.diagonal.step.Statement.{statement}
 use Rattle.quads.proofs.diagonal.step.Tie as tie

@@ -3,7 +3,8 @@ use Prim.Native.Nat.{ℕ, _+_, _-_, _≤_}
 use mathlib.Core.Path.{_≡_, sym, ap, _∙_}
 use mathlib.Core.List.{List}
 use native.Mathlib.Omega.{arith}
-use Rattle.quads.specs.Merge.{Mesh, countTo, triangleCount}
+use Rattle.quads.specs.Merge.{Mesh, triangleCount}
+use Rattle.quads.specs.inner.Merging.{countTo}
 use Rattle.quads.proofs.Made.{count-more, count-passed, count-le}
 use borrow.Author.Needs.{needs}
 use Rattle.quads.proofs.inner.count_quads.Statement.{statement}

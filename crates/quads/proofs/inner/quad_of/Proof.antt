@@ -1,7 +1,7 @@
 -- `quad_of` is the quad that t makes: its four corners exist, in order.
 use mathlib.Core.Path.{sym, ap, _∙_}
 use mathlib.Core.Bool.{false≢true}
-use Rattle.quads.specs.Merge.{isFour}
+use Rattle.quads.specs.inner.Merging.{isFour}
 use Rattle.quads.proofs.Pairs.{four-exist}
 use borrow.Author.Needs.{needs}
 use Rattle.quads.proofs.inner.quad_of.Statement.{statement}

@@ -6,7 +6,8 @@ use mathlib.Core.List.{List}
 use native.Mathlib.Omega.{arith}
 use borrow.Author.Tests.{eqb-true, eqb-false}
 use lib.Dec.{eqb}
-use Rattle.quads.specs.Merge.{Mesh, isFour, pairedAt}
+use Rattle.quads.specs.Merge.{Mesh, pairedAt}
+use Rattle.quads.specs.inner.Merging.{isFour}
 use borrow.Author.Needs.{needs}
 use Rattle.quads.proofs.pair.next_pair.Statement.{statement}
 use Rattle.quads.proofs.pair.next_pair.Tie as tie

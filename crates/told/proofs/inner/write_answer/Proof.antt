@@ -2,7 +2,7 @@
 use mathlib.Core.Path.{sym, ap, _∙_}
 use lib.ListN.{length}
 use Rattle.walk.specs.declared.Labelled.{Labelled}
-use Rattle.told.specs.Answer.{answerLine}
+use Rattle.told.specs.inner.Answer.{answerLine}
 use borrow.Author.Needs.{needs}
 use Rattle.told.proofs.inner.write_answer.Statement.{statement}
 use Rattle.told.proofs.inner.write_answer.Tie as tie

@@ -5,7 +5,7 @@ use native.Mathlib.Numerals.{add-one}
 use native.Mathlib.Omega.{arith}
 use borrow.Author.Needs.{needs}
 use Rattle.cells.specs.Holes.{height}
-use Rattle.walk.specs.Emitted.{leastX, entriesTo}
+use Rattle.walk.specs.inner.Emitted.{leastX, entriesTo}
 use Rattle.walk.proofs.Shifted.{none-yet}
 use Rattle.walk.proofs.Extent.{y-low, height-more}
 use Rattle.walk.proofs.emit.height_of.Statement.{statement}

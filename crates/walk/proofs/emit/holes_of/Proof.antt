@@ -5,7 +5,7 @@ use native.Mathlib.Nat.{mul-le-mul}
 use native.Mathlib.Omega.{arith}
 use borrow.Author.Needs.{needs}
 use Rattle.cells.specs.Holes.{holes}
-use Rattle.walk.specs.Emitted.{xIn, leastX, entriesOf}
+use Rattle.walk.specs.inner.Emitted.{xIn, leastX, entriesOf}
 use Rattle.walk.proofs.Extent.{x-low, holes-run, holes-none}
 use Rattle.walk.proofs.emit.holes_of.Statement.{statement}
 use Rattle.walk.proofs.emit.holes_of.Tie as tie

@@ -2,7 +2,7 @@
 use mathlib.Core.Path.{sym, _∙_}
 use native.Mathlib.Omega.{arith}
 use borrow.Author.Needs.{needs}
-use Rattle.walk.specs.Emitted.{leastOf}
+use Rattle.walk.specs.inner.Emitted.{leastOf}
 use Rattle.walk.proofs.Extent.{x-first}
 use Rattle.walk.proofs.emit.least_x.Statement.{statement}
 use Rattle.walk.proofs.emit.least_x.Tie as tie

@@ -4,7 +4,7 @@ use Prim.Native.Nat.{_-_, _≤_}
 use native.Mathlib.Numerals.{add-one}
 use native.Mathlib.Omega.{arith}
 use borrow.Author.Needs.{needs}
-use Rattle.walk.specs.Emitted.{yIn, leastOf}
+use Rattle.walk.specs.inner.Emitted.{yIn, leastOf}
 use Rattle.walk.proofs.Shifted.{least-more}
 use Rattle.walk.proofs.emit.least_y.Statement.{statement}
 use Rattle.walk.proofs.emit.least_y.Tie as tie

@@ -3,7 +3,7 @@ use mathlib.Core.Path.{ap, _∙_}
 use mathlib.Core.List.{[], _∷_}
 use Prim.Native.Nat.{ℕ, _*_}
 use borrow.Author.Needs.{needs}
-use Rattle.walk.specs.Emitting.{pasted}
+use Rattle.walk.specs.inner.Emitting.{pasted}
 use Rattle.walk.proofs.emit.write_component.Statement.{statement}
 use Rattle.walk.proofs.emit.write_component.Tie as tie
 

@@ -6,9 +6,9 @@ use native.Mathlib.Omega.{arith}
 use lib.ListN.{length}
 use Rattle.cells.specs.Listed.{Entry}
 use borrow.Author.Needs.{needs}
-use Rattle.walk.specs.Emitted.{entriesTo}
+use Rattle.walk.specs.inner.Emitted.{entriesTo}
 use Rattle.walk.specs.Call.{entryWords}
-use Rattle.walk.specs.Emitting.{pasted}
+use Rattle.walk.specs.inner.Emitting.{pasted}
 use Rattle.walk.proofs.Shifted.{none-yet}
 use Rattle.walk.proofs.Extent.{x-low, y-low}
 use Rattle.walk.proofs.Pasting.{pasted-none}

@@ -3,8 +3,8 @@ use mathlib.Core.Path.{ap, ap₂, _∙_}
 use mathlib.Core.List.{[], _∷_}
 use Prim.Native.Nat.{ℕ, _*_, _-_}
 use borrow.Author.Needs.{needs}
-use Rattle.fates.specs.Fates.{cornerIn}
-use Rattle.walk.specs.Emitting.{pasted}
+use Rattle.fates.specs.inner.Fates.{cornerIn}
+use Rattle.walk.specs.inner.Emitting.{pasted}
 use Rattle.walk.proofs.emit.write_entry.Statement.{statement}
 use Rattle.walk.proofs.emit.write_entry.Tie as tie
 

@@ -6,8 +6,8 @@ use lib.ListN.{length}
 use borrow.Author.Needs.{needs}
 use Rattle.fates.specs.declared.Runs.{Runs}
 use Rattle.fates.specs.Judged.{isKept}
-use Rattle.walk.specs.Emitted.{outTo}
-use Rattle.walk.specs.Emitting.{Written}
+use Rattle.walk.specs.inner.Emitted.{outTo}
+use Rattle.walk.specs.inner.Emitting.{Written}
 use Rattle.walk.proofs.Counting.{Counting, counting-none, counting-more}
 use Rattle.walk.proofs.Writing.{written-none, written-next, room-next}
 use Rattle.walk.proofs.emit.write_out.Statement.{statement}

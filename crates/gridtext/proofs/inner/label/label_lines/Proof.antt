@@ -4,7 +4,7 @@ use native.Mathlib.Omega.{arith}
 use lib.ListN.{length-replicate}
 use Rattle.measure.specs.Float.{bits}
 use Rattle.gridtext.specs.Text.{mostCornerLines, mostTriangleLines}
-use Rattle.gridtext.specs.Unpacked.{workWords}
+use Rattle.gridtext.specs.inner.Unpacked.{workWords}
 use Rattle.gridtext.proofs.Filling.{front-in, front-counted}
 use Rattle.gridtext.proofs.Unpacking.{unpacked-input, corner-room, triangle-room}
 use Rattle.gridtext.proofs.Answering.{labels}

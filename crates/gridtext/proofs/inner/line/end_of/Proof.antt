@@ -1,7 +1,7 @@
 -- `end_of` is the end after a field.
 use mathlib.Core.Path.{_≡_, refl}
 use Prim.Native.Nat.{ℕ, zero, suc}
-use Rattle.gridtext.specs.Rows.{endAfter}
+use Rattle.gridtext.specs.inner.Rows.{endAfter}
 use borrow.Author.Needs.{needs}
 use Rattle.gridtext.proofs.inner.line.end_of.Statement.{statement}
 use Rattle.gridtext.proofs.inner.line.end_of.Tie as tie

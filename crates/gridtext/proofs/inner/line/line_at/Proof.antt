@@ -4,8 +4,8 @@ use Prim.Native.Nat.{_-_}
 use native.Mathlib.Omega.{arith}
 use borrow.Author.Tests.{not-true, not-false}
 use lib.ListN.{length}
-use Rattle.gridtext.specs.Rows.{mostWords}
-use Rattle.gridtext.specs.Read.{LineAt}
+use Rattle.gridtext.specs.inner.Rows.{mostWords}
+use Rattle.gridtext.specs.inner.Read.{LineAt}
 use Rattle.gridtext.proofs.Fields.{pair-there, pair-not, pair-within}
 use Rattle.gridtext.proofs.Taking.{Passed, passed-none, no-letter, field-missing, room-more, passed-more, passed-all}
 use borrow.Author.Needs.{needs}

@@ -4,7 +4,7 @@ use mathlib.Core.Path.{_≡_, refl}
 use Prim.Native.Nat.{_-_}
 use native.Mathlib.Omega.{arith}
 use lib.ListN.{length}
-use Rattle.gridtext.specs.Rows.{mostWords}
+use Rattle.gridtext.specs.inner.Rows.{mostWords}
 use Rattle.gridtext.proofs.Runs.{SoFar, room-left, size-few, far-none, far-ends, far-more, line-missing}
 use borrow.Author.Needs.{needs}
 use Rattle.gridtext.proofs.inner.lines.lines_at.Statement.{statement}

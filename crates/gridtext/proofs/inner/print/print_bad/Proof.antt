@@ -4,7 +4,7 @@ use mathlib.Core.List.{[], _∷_}
 use native.Mathlib.Omega.{arith}
 use Rattle.digits.specs.Digits.{decimalOf}
 use Rattle.gridtext.specs.Answer.{badText, numbersLine}
-use Rattle.gridtext.specs.Printed.{lastFields}
+use Rattle.gridtext.specs.inner.Printed.{lastFields}
 use Rattle.gridtext.proofs.Bounds.{bad-room}
 use Rattle.gridtext.proofs.Printing.{printed-then, room-first, room-next}
 use borrow.Author.Needs.{needs}

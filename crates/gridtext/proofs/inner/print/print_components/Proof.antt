@@ -6,7 +6,7 @@ use Prim.Native.Nat.{_-_, _≤_, _<_}
 use native.Mathlib.Omega.{arith}
 use Rattle.digits.specs.Digits.{decimalOf}
 use Rattle.gridtext.specs.Answer.{componentsText}
-use Rattle.gridtext.specs.Printed.{Printed, Room, lastFields}
+use Rattle.gridtext.specs.inner.Printed.{Printed, Room, lastFields}
 use Rattle.gridtext.proofs.Printing.{printed-then, printed-as, room-first, room-next}
 use Rattle.gridtext.proofs.Joining.{joined, joined-none, joined-more, joined-room, componentPiece}
 use Rattle.gridtext.proofs.Reading.{countWord, readable, answer-parts, answer-first}

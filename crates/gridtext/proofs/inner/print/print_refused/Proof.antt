@@ -5,7 +5,7 @@ use native.Mathlib.Omega.{arith}
 use Rattle.refusal.specs.Table.{numberOf, placeOf}
 use Rattle.digits.specs.Digits.{decimalOf}
 use Rattle.gridtext.specs.Answer.{refusedText, numbersLine}
-use Rattle.gridtext.specs.Printed.{lastFields}
+use Rattle.gridtext.specs.inner.Printed.{lastFields}
 use Rattle.gridtext.proofs.Bounds.{refused-room}
 use Rattle.gridtext.proofs.Printing.{printed-then, room-first, room-next}
 use borrow.Author.Needs.{needs}

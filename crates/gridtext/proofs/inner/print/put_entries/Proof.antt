@@ -2,7 +2,7 @@
 use mathlib.Core.Path.{_≡_}
 use Prim.Native.Nat.{_-_, _≤_, _<_}
 use native.Mathlib.Omega.{arith}
-use Rattle.gridtext.specs.Printed.{Printed}
+use Rattle.gridtext.specs.inner.Printed.{Printed}
 use Rattle.gridtext.proofs.Joining.{joined, joined-none, joined-more, joined-room, entryPiece, entries-joined}
 use borrow.Author.Needs.{needs}
 use Rattle.gridtext.proofs.inner.print.put_entries.Statement.{statement}

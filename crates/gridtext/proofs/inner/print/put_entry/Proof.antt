@@ -4,7 +4,7 @@ use mathlib.Core.List.{[], _∷_}
 use Rattle.digits.specs.Digits.{decimalOf}
 use Rattle.walk.specs.Read.{entryAt}
 use Rattle.gridtext.specs.Answer.{entryLine, numbersLine}
-use Rattle.gridtext.specs.Printed.{lastFields}
+use Rattle.gridtext.specs.inner.Printed.{lastFields}
 use Rattle.gridtext.proofs.Printing.{printed-then, room-first, room-next}
 use borrow.Author.Needs.{needs}
 use Rattle.gridtext.proofs.inner.print.put_entry.Statement.{statement}

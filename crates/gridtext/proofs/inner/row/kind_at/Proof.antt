@@ -5,7 +5,7 @@ use native.Mathlib.Omega.{arith}
 use lib.ListN.{getD}
 use Rattle.gridtext.specs.declared.inner.row.Kind.{Kind}
 use Rattle.gridtext.specs.declared.inner.row.Sort.{Sort}
-use Rattle.gridtext.specs.Rows.{kindsOf}
+use Rattle.gridtext.specs.inner.Rows.{kindsOf}
 use borrow.Author.Needs.{needs}
 use Rattle.gridtext.proofs.inner.row.kind_at.Statement.{statement}
 use Rattle.gridtext.proofs.inner.row.kind_at.Tie as tie

@@ -10,7 +10,7 @@ use borrow.Author.Tests.{eqb-true, eqb-false}
 use lib.Dec.{eqb}
 use lib.ListN.{length, getD, drop, length-drop}
 use lib.Seq.{getD-drop, drop-cons}
-use Rattle.gridtext.specs.Rows.{PairAt}
+use Rattle.gridtext.specs.inner.Rows.{PairAt}
 use borrow.Author.Needs.{needs}
 use Rattle.gridtext.proofs.inner.row.pair_at.Statement.{statement}
 use Rattle.gridtext.proofs.inner.row.pair_at.Tie as tie

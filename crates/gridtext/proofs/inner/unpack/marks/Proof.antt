@@ -7,7 +7,7 @@ use lib.ListN.{getD, drop, replicate, length-replicate}
 use borrow.Author.Needs.{needs}
 use Rattle.words.specs.Listing.{listing}
 use Rattle.gridtext.specs.Text.{mostCornerLines}
-use Rattle.gridtext.specs.Unpacked.{slotAt}
+use Rattle.gridtext.specs.inner.Unpacked.{slotAt}
 use Rattle.gridtext.proofs.Filling.{filled-none, filled-more}
 use Rattle.gridtext.proofs.inner.unpack.marks.Statement.{statement}
 use Rattle.gridtext.proofs.inner.unpack.marks.Tie as tie

@@ -8,7 +8,7 @@ use borrow.Author.Needs.{needs}
 use Rattle.words.specs.Listing.{listing}
 use Rattle.measure.specs.Float.{bits}
 use Rattle.gridtext.specs.Text.{mostCornerLines}
-use Rattle.gridtext.specs.Unpacked.{slotAt}
+use Rattle.gridtext.specs.inner.Unpacked.{slotAt}
 use Rattle.gridtext.proofs.Filling.{filled-none, filled-more}
 use Rattle.gridtext.proofs.inner.unpack.slots.Statement.{statement}
 use Rattle.gridtext.proofs.inner.unpack.slots.Tie as tie

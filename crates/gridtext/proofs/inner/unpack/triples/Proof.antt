@@ -7,7 +7,7 @@ use lib.ListN.{getD, drop, replicate, length-replicate}
 use borrow.Author.Needs.{needs}
 use Rattle.words.specs.Listing.{listing}
 use Rattle.gridtext.specs.Text.{mostTriangleLines}
-use Rattle.gridtext.specs.Unpacked.{tripleAt}
+use Rattle.gridtext.specs.inner.Unpacked.{tripleAt}
 use Rattle.gridtext.proofs.Filling.{filled-none, filled-more}
 use Rattle.gridtext.proofs.inner.unpack.triples.Statement.{statement}
 use Rattle.gridtext.proofs.inner.unpack.triples.Tie as tie

@@ -1,6 +1,6 @@
 -- `label`: the walk from the planted seed ends with the queue used up, or is stuck.
 use native.Mathlib.Omega.{arith}
-use Rattle.laying.specs.Answers.Labelled.{laid, clash}
+use Rattle.laying.specs.inner.Answers.Labelled.{laid, clash}
 use Rattle.laying.proofs.Resting.{rest-trans, table-rest}
 use Rattle.laying.proofs.Ended.{seeded-still, fitted}
 use borrow.Author.Needs.{needs}

@@ -2,7 +2,7 @@
 use mathlib.Core.Path.{refl, _∙_}
 use native.Mathlib.Omega.{arith}
 use lib.ListN.{length-set}
-use Rattle.laying.specs.Layout.{centre}
+use Rattle.laying.specs.inner.Layout.{centre}
 use Rattle.laying.proofs.Seeds.{two-corners, word-zero, word-one, planted-at}
 use borrow.Author.Needs.{needs}
 use Rattle.laying.proofs.inner.label.plant.Statement.{statement}

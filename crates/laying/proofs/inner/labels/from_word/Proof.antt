@@ -4,7 +4,7 @@ use native.Mathlib.Omega.{arith}
 use lib.IntN.{ℤ, pos, _-ℤ_}
 use mir.Syntax.{w32}
 use mir.Facts.{toZ-ofZ, toZ-pos}
-use Rattle.laying.specs.Layout.{centre, label}
+use Rattle.laying.specs.inner.Layout.{centre, label}
 use Rattle.laying.proofs.Reading.{word-sum, difference-fits}
 use borrow.Author.Needs.{needs}
 use Rattle.laying.proofs.inner.labels.from_word.Statement.{statement}

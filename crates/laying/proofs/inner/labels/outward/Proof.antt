@@ -5,7 +5,7 @@ use lib.IntN.{_+ℤ_}
 use mir.Syntax.{w32}
 use mir.Val.{toZ, ofZ}
 use mir.Facts.{toZ-ofZ}
-use Rattle.laying.specs.Layout.{centre, label}
+use Rattle.laying.specs.inner.Layout.{centre, label}
 use Rattle.laying.proofs.Reading.{word-sum, difference-fits, machine-label}
 use borrow.Author.Needs.{needs}
 use Rattle.laying.proofs.inner.labels.outward.Statement.{statement}

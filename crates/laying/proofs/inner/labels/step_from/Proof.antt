@@ -4,7 +4,7 @@ use lib.IntN.{_-ℤ_}
 use mir.Syntax.{w32}
 use mir.Val.{toZ, ofZ}
 use mir.Facts.{toZ-ofZ}
-use Rattle.laying.specs.Layout.{label}
+use Rattle.laying.specs.inner.Layout.{label}
 use Rattle.laying.proofs.Reading.{step-fits, machine-label}
 use borrow.Author.Needs.{needs}
 use Rattle.laying.proofs.inner.labels.step_from.Statement.{statement}

@@ -6,7 +6,7 @@ use lib.IntN.{ℤ, pos, _+ℤ_}
 use mir.Syntax.{w32}
 use mir.Val.{toZ, ofZ}
 use mir.Facts.{toZ-ofZ}
-use Rattle.laying.specs.Layout.{centre}
+use Rattle.laying.specs.inner.Layout.{centre}
 use Rattle.laying.proofs.Reading.{word-of}
 use Rattle.laying.proofs.inner.labels.to_word.Statement.{statement}
 use Rattle.laying.proofs.inner.labels.to_word.Tie as tie

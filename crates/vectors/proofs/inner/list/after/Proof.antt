@@ -1,6 +1,6 @@
 -- `after` is `afterOf`, by the same test.
 use borrow.Author.Tests.{lt-ltb, le-ltb}
-use Rattle.vectors.specs.Lists.{afterOf}
+use Rattle.vectors.specs.inner.Lists.{afterOf}
 use borrow.Author.Needs.{needs}
 use Rattle.vectors.proofs.inner.list.after.Statement.{statement}
 use Rattle.vectors.proofs.inner.list.after.Tie as tie

@@ -1,6 +1,6 @@
 -- `element` is `elementOf`, by the same test.
 use borrow.Author.Tests.{lt-ltb, le-ltb}
-use Rattle.vectors.specs.Lists.{elementOf}
+use Rattle.vectors.specs.inner.Lists.{elementOf}
 use borrow.Author.Needs.{needs}
 use Rattle.vectors.proofs.inner.list.element.Statement.{statement}
 use Rattle.vectors.proofs.inner.list.element.Tie as tie

@@ -1,7 +1,7 @@
 -- `fill` lays the elements of a list, one a turn.
 use Prim.Native.Nat.{_-_, _≤_}
 use native.Mathlib.Omega.{arith}
-use Rattle.vectors.specs.Lists.{elementOf, Laid, front}
+use Rattle.vectors.specs.inner.Lists.{elementOf, Laid, front}
 use Rattle.vectors.proofs.Laying.{laid-none, laid-more, laid-all}
 use borrow.Author.Needs.{needs}
 use Rattle.vectors.proofs.inner.list.fill.Statement.{statement}

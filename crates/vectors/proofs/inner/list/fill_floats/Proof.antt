@@ -3,7 +3,7 @@ use mathlib.Core.Path.{ap, _∙_}
 use Prim.Native.Nat.{ℕ, _-_, _≤_}
 use native.Mathlib.Omega.{arith}
 use lib.Ieee.{nan, binary32, ofBits}
-use Rattle.vectors.specs.Lists.{elementOf, Laid, front}
+use Rattle.vectors.specs.inner.Lists.{elementOf, Laid, front}
 use Rattle.vectors.proofs.Laying.{laid-none, laid-more, laid-all}
 use borrow.Author.Needs.{needs}
 use Rattle.vectors.proofs.inner.list.fill_floats.Statement.{statement}

@@ -1,5 +1,5 @@
 -- `head_at` reads a list's three words.
-use Rattle.vectors.specs.Lists.{lengthAt, givenAt}
+use Rattle.vectors.specs.inner.Lists.{lengthAt, givenAt}
 use borrow.Author.Needs.{needs}
 use Rattle.vectors.proofs.inner.list.head_at.Statement.{statement}
 use Rattle.vectors.proofs.inner.list.head_at.Tie as tie

@@ -4,7 +4,7 @@ use Prim.Native.Nat.{ℕ, _-_, _≤_}
 use native.Mathlib.Omega.{arith}
 use lib.ListN.{getD}
 use lib.Seq.{getD-set-other}
-use Rattle.vectors.specs.Lists.{overAt, Laid, front}
+use Rattle.vectors.specs.inner.Lists.{overAt, Laid, front}
 use Rattle.vectors.proofs.Laying.{laid-more}
 use Rattle.vectors.proofs.Over.{over-given, over-next}
 use borrow.Author.Needs.{needs}

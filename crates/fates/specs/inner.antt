@@ -1,0 +1,9 @@
+pub mod Runs
+pub mod Fates
+pub mod FateWords
+pub mod Prepared
+pub mod Gathering
+pub mod Singles
+pub mod Index
+pub mod Judging
+pub mod Computed

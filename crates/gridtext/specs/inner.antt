@@ -1,0 +1,5 @@
+pub mod Rows
+pub mod Read
+pub mod Printed
+pub mod Held
+pub mod Unpacked

@@ -1,0 +1,5 @@
+pub mod Layout
+pub mod Invariant
+pub mod Settling
+pub mod Moves
+pub mod Answers
