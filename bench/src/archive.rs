@@ -21,7 +21,7 @@ fn told<T>(refused: u32, place: u32, given: T) -> Result<T, Refusal> {
 
 /// The oracle's refusal for the package's.
 fn by_row(refusal: ngeunsadok::Refusal) -> Refusal {
-    Refusal { row: refusal.number, place: refusal.place }
+    Refusal { row: refusal.number(), place: refusal.place() }
 }
 
 #[inline]

@@ -1,4 +1,4 @@
-// Long comparisons of the archive's numbers: every root, and many angles and distances, bit for bit.
+// Long comparisons of the archive's numbers: every root, and many angles and distances, bit for bit. Each says whether none differs.
 
 use crate::archive;
 use crate::tally::Tally;
@@ -18,7 +18,7 @@ fn known(answer: Result<f32, Refusal>) -> Option<f32> {
     answer.ok()
 }
 
-pub fn roots() {
+pub fn roots() -> bool {
     let mut tally = Tally::default();
     for bits in 0..=u32::MAX {
         let x = f32::from_bits(bits);
@@ -28,7 +28,7 @@ pub fn roots() {
             eprintln!("{} of 16", bits / 0x1000_0000 + 1);
         }
     }
-    tally.print("roots");
+    tally.print("roots")
 }
 
 /// Every fourth pair has patterns of any kind, NaN and infinities among them.
@@ -40,7 +40,7 @@ fn pair(random: &mut Random, i: u64) -> (f32, f32) {
     }
 }
 
-pub fn pairs(count: u64, seed: u64) {
+pub fn pairs(count: u64, seed: u64) -> bool {
     let mut random = Random::new(seed);
     let (mut angles, mut distances) = (Tally::default(), Tally::default());
     for i in 0..count {
@@ -51,6 +51,5 @@ pub fn pairs(count: u64, seed: u64) {
         let (ours, theirs) = (ngeunsadok::axis_distance(angle, axis), rules::distance_or_none(angle, axis));
         distances.add(same(ours, theirs), 0, || format!("{:08X} {:08X}", angle.to_bits(), axis.to_bits()));
     }
-    angles.print("angles");
-    distances.print("distances");
+    angles.print("angles") & distances.print("distances")
 }

@@ -78,22 +78,24 @@ impl Frames {
         tallies.for_each(|(tally, _)| tally.add(same, size, &name));
     }
 
-    fn print(&self) {
-        self.frames.print("frames", &["components", "entries"]);
+    /// Prints it; says whether none differs of what must not.
+    fn print(&self) -> bool {
+        let mut same = self.frames.print("frames", &["components", "entries"]);
         println!("  accepted with {MOST_CORNERS} corners and {MOST_HALF_EDGES} half-edges: {}", self.full);
-        self.classes.print("classes", &["classes"]);
-        self.quads.print("quads", &["quads"]);
-        self.kept.iter().zip(FILTERS).for_each(|(kept, name)| kept.print(name, &["kept"]));
-        self.run.print("these stages beside those of the whole run");
+        same &= self.classes.print("classes", &["classes"]);
+        same &= self.quads.print("quads", &["quads"]);
+        self.kept.iter().zip(FILTERS).for_each(|(kept, name)| same &= kept.print(name, &["kept"]));
+        same &= self.run.print("these stages beside those of the whole run");
         let [letter, narrow, outside] = &self.unchanged;
-        letter.print("beside the unchanged Rust, in scope by the letter");
-        narrow.print("beside the unchanged Rust, in scope by the narrow reading");
+        same &= letter.print("beside the unchanged Rust, in scope by the letter");
+        same &= narrow.print("beside the unchanged Rust, in scope by the narrow reading");
         outside.print_counts("beside the unchanged Rust, out of both");
+        same
     }
 }
 
-/// Frames of all kinds and sizes up to the limits, some damaged, some with too short lists.
-pub fn check(count: u64, seed: u64) {
+/// Frames of all kinds and sizes up to the limits, some damaged, some with too short lists. Says whether none differs.
+pub fn check(count: u64, seed: u64) -> bool {
     let mut frames = Frames::default();
     for number in 0..count {
         frames.add(number, &drawn(seed, number as usize).case);
@@ -101,5 +103,5 @@ pub fn check(count: u64, seed: u64) {
             eprintln!("{} of {count}", number + 1);
         }
     }
-    frames.print();
+    frames.print()
 }

@@ -29,3 +29,21 @@ fn ours(case: &Case) -> Told<2, 3> {
 
 pub const LABELS: Call<Case, 2, 3> =
     Call { name: "labels", counts: ["components", "entries"], any: any_case, large, damage, ours };
+
+#[cfg(test)]
+mod tests {
+    use super::*;
+
+    /// The archive's answer with a hole more in the first component.
+    fn wrong(case: &Case) -> Told<2, 3> {
+        let mut told = ours(case);
+        told.lists[1].iter_mut().skip(2).take(1).for_each(|holes| *holes += 1);
+        told
+    }
+
+    #[test]
+    fn a_wrong_word_is_told() {
+        assert!(LABELS.check(100, 1));
+        assert!(!Call { ours: wrong, ..LABELS }.check(100, 1));
+    }
+}

@@ -32,7 +32,8 @@ where
         case
     }
 
-    pub fn check(&self, count: u64, seed: u64) {
+    /// Says whether none of so many lists differs.
+    pub fn check(&self, count: u64, seed: u64) -> bool {
         let (mut beside, mut quads) = (Beside::default(), 0);
         for i in 0..count {
             let case = self.drawn(&mut Random::part(seed, i));
@@ -40,7 +41,8 @@ where
             beside.add(&ours, &theirs, case.quads().len(), || format!("list {i}: {case:?}"));
             quads += if ours.result.is_ok() { case.quads().len() / 4 } else { 0 };
         }
-        beside.print(self.name, &self.counts);
+        let same = beside.print(self.name, &self.counts);
         println!("  {quads} quads of accepted lists");
+        same
     }
 }

@@ -15,6 +15,9 @@ mod stages;
 mod tally;
 mod timing;
 
+use oracle::command::{count_and_seed, program, Command, Outcome};
+use std::process::ExitCode;
+
 const HELP: &str = "\
 bench numbers                 time per root, angle and distance beside the Rust's
 bench filters                 time of the filters beside the Rust's
@@ -26,27 +29,33 @@ bench check filters COUNT SEED
                               the filters on drawn lists beside the ruled Rust, every word
 bench check labels COUNT SEED the labelling on drawn lists beside the Rust's walk, every word
 bench check frames COUNT SEED whole frames and their stages beside the ruled and the unchanged Rust, every word;
-                              one in 500 has 4,096 corners and 24,576 half-edges";
+                              one in 500 has 4,096 corners and 24,576 half-edges
+bench help                    this list
+A check that finds a difference ends with status 1; no words, or words that cannot be read, with status 2.
+Document 01 is the customer's paper with the rules that the port follows; docs/GUIDE.md has what a user needs of it.
+";
 
-fn number(word: Option<&String>, otherwise: u64) -> u64 {
-    word.and_then(|w| w.parse().ok()).unwrap_or(otherwise)
+const COMMANDS: [Command; 9] = [
+    ("numbers", 0..=0, |_| timed(numbers::run)),
+    ("filters", 0..=0, |_| timed(filters::run)),
+    ("labels", 0..=0, |_| timed(labels::run)),
+    ("frames", 0..=0, |_| timed(frames::run)),
+    ("check roots", 0..=0, |_| Ok(check::roots())),
+    ("check pairs", 2..=2, |words| compared(words, check::pairs)),
+    ("check filters", 2..=2, |words| compared(words, |count, seed| check_filters::FILTERS.check(count, seed))),
+    ("check labels", 2..=2, |words| compared(words, |count, seed| check_labels::LABELS.check(count, seed))),
+    ("check frames", 2..=2, |words| compared(words, check_frames::check)),
+];
+
+fn timed(run: fn()) -> Outcome {
+    run();
+    Ok(true)
 }
 
-fn main() {
-    let words: Vec<String> = std::env::args().skip(1).collect();
-    let named: Vec<&str> = words.iter().map(String::as_str).collect();
-    let count = |otherwise: u64| number(words.get(2), otherwise);
-    let seed = number(words.get(3), 1);
-    match named.as_slice() {
-        ["numbers"] => numbers::run(),
-        ["filters"] => filters::run(),
-        ["labels"] => labels::run(),
-        ["frames"] => frames::run(),
-        ["check", "roots"] => check::roots(),
-        ["check", "filters", ..] => check_filters::FILTERS.check(count(100_000), seed),
-        ["check", "labels", ..] => check_labels::LABELS.check(count(100_000), seed),
-        ["check", "frames", ..] => check_frames::check(count(100_000), seed),
-        ["check", "pairs", ..] => check::pairs(count(100_000_000), seed),
-        _ => println!("{HELP}"),
-    }
+fn compared(words: &[String], check: fn(u64, u64) -> bool) -> Outcome {
+    count_and_seed(words).map(|(count, seed)| check(count, seed))
+}
+
+fn main() -> ExitCode {
+    program(&COMMANDS, HELP)
 }

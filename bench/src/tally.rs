@@ -29,11 +29,14 @@ impl Tally {
         println!("{name}: {} compared, {} different", self.compared, self.different);
     }
 
-    pub fn print(&self, name: &str) {
+    /// Prints it and the smallest that differs; says whether none does.
+    #[must_use]
+    pub fn print(&self, name: &str) -> bool {
         self.print_counts(name);
         if let Some((_, smallest)) = &self.smallest {
             println!("  smallest: {smallest}");
         }
+        self.different == 0
     }
 }
 
@@ -69,10 +72,37 @@ impl<const COUNTS: usize> Beside<COUNTS> {
         }
     }
 
-    /// Prints it, each count with its name.
-    pub fn print(&self, name: &str, counts: &[&str; COUNTS]) {
-        self.tally.print(name);
+    /// Prints it, each count with its name; says whether none differs.
+    #[must_use]
+    pub fn print(&self, name: &str, counts: &[&str; COUNTS]) -> bool {
+        let same = self.tally.print(name);
         let sums: Vec<String> = self.sums.iter().zip(counts).map(|(sum, count)| format!("{sum} {count}")).collect();
         println!("  accepted: {}; refused by rows 1 to 10: {:?}", sums.join(", "), &self.refused[1..]);
+        same
+    }
+}
+
+#[cfg(test)]
+mod tests {
+    use super::*;
+
+    #[test]
+    fn one_in_many_is_told() {
+        let mut tally = Tally::default();
+        (0..1_000).for_each(|i| tally.add(true, i, String::new));
+        assert!(tally.print("the same"));
+        tally.add(false, 0, || "the other".to_string());
+        tally.add(true, 0, String::new);
+        assert!(!tally.print("not the same"));
+    }
+
+    #[test]
+    fn what_is_left_of_a_list_is_told() {
+        let mut beside = Beside::default();
+        let told = |last: u32| Told { result: Ok([1]), lists: [vec![7, last]] };
+        beside.add(&told(0), &told(0), 0, String::new);
+        assert!(beside.print("the same", &["counted"]));
+        beside.add(&told(0), &told(1), 0, String::new);
+        assert!(!beside.print("not the same", &["counted"]));
     }
 }

@@ -60,6 +60,16 @@ pub struct Table {
     pub worded_first: Option<Difference>,
 }
 
+/// What is compared.
+pub struct Sides {
+    pub judge: fn(&Frame) -> Option<Refusal>,
+    pub plain: fn(&Frame) -> Stages,
+    pub ruled: fn(&Frame) -> Stages,
+    pub words: fn(&Frame) -> Stages,
+}
+
+pub const SIDES: Sides = Sides { judge, plain: plain::run, ruled: ruled::run, words: words::run };
+
 /// The words are run only on frames of at most this many quads: they take their time.
 const MOST_WORDED: usize = 500;
 
@@ -140,8 +150,15 @@ impl Table {
         }
     }
 
-    /// Holds document 01's words against the ruled build.
-    fn add_words(&mut self, number: usize, kind: &'static str, frame: &Frame, ruled: &Stages) {
+    /// Holds document 01's words, as one side has them, against the ruled build.
+    fn add_words(
+        &mut self,
+        words: fn(&Frame) -> Stages,
+        number: usize,
+        kind: &'static str,
+        frame: &Frame,
+        ruled: &Stages,
+    ) {
         if ruled.quads.len() > MOST_WORDED {
             return;
         }
@@ -149,16 +166,16 @@ impl Table {
         for fate in fates(&ruled.scale, frame.params.least_quads, frame.params.least_corners) {
             self.fates[fate.place()] += 1;
         }
-        let Some(stage) = first_difference(&words::run(frame), ruled) else {
+        let Some(stage) = first_difference(&words(frame), ruled) else {
             return;
         };
         self.worded_differ += 1;
         self.worded_first.get_or_insert_with(|| difference(number, kind, stage, false, frame));
     }
 
-    fn add(&mut self, seed: u64, number: usize) {
+    fn add(&mut self, sides: &Sides, seed: u64, number: usize) {
         let (place, frame, expected) = frame_of(seed, number);
-        let refusal = judge(&frame);
+        let refusal = (sides.judge)(&frame);
         self.wrong_refusals += (refusal != expected) as usize;
         let (kind, row) = &mut self.rows[place];
         let kind = *kind;
@@ -167,7 +184,7 @@ impl Table {
             row.refused += 1;
             return;
         }
-        let (by_plain, by_ruled) = (plain::run(&frame), ruled::run(&frame));
+        let (by_plain, by_ruled) = ((sides.plain)(&frame), (sides.ruled)(&frame));
         let scope = scope(&frame, &by_plain);
         row.count_stages(&by_plain);
         row.letter += scope.letter as usize;
@@ -179,15 +196,21 @@ impl Table {
             let answers = by_plain.components != by_ruled.components;
             self.keep(found, scope.narrow, answers);
         }
-        self.add_words(number, kind, &frame, &by_ruled);
+        self.add_words(sides.words, number, kind, &frame, &by_ruled);
+    }
+
+    /// Whether nothing parts that document 01 wants equal.
+    pub fn same(&self) -> bool {
+        let parted = |(_, row): &(_, Row)| row.differ_letter + row.differ_narrow > 0;
+        !self.rows.iter().any(parted) && self.wrong_refusals + self.worded_differ == 0
     }
 }
 
 /// The table of a run over `count` frames.
-pub fn compare(count: usize, seed: u64) -> Table {
+pub fn compare(sides: &Sides, count: u64, seed: u64) -> Table {
     let mut table = Table::new();
-    for number in 0..count {
-        table.add(seed, number);
+    for number in 0..count as usize {
+        table.add(sides, seed, number);
     }
     table
 }

@@ -1,6 +1,7 @@
 // The oracle above both builds of the original.
 
 pub mod calls;
+pub mod command;
 pub mod compare;
 pub mod demand;
 pub mod examples;
@@ -15,4 +16,5 @@ pub mod stages;
 pub mod text;
 pub mod told;
 pub mod vectors;
+pub mod walked;
 pub mod words;

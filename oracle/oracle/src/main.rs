@@ -2,7 +2,8 @@
 
 mod commands;
 
-use commands::Outcome;
+use oracle::command::{program, Command};
+use std::process::ExitCode;
 
 const HELP: &str = "\
 oracle gridlabel [plain|ruled] answer to a gridlabel text on standard input (ruled if not said)
@@ -23,32 +24,22 @@ oracle vectors frames DIR      vectors of the whole frame, written into DIR
 oracle vectors texts DIR       vectors of the program, written into DIR
 oracle examples DIR            the example frames as texts with their answers, written into DIR
 oracle help                    this list
+A comparison that finds a difference ends with status 1; no words, or words that cannot be read, with status 2.
+Document 01 is the customer's paper with the rules that the port follows; docs/GUIDE.md has what a user needs of it.
 ";
 
-fn run(name: &str, args: &[String]) -> Outcome {
-    match name {
-        "gridlabel" => commands::gridlabel::run(args),
-        "label" => commands::label::run(args),
-        "frames" => commands::frames::run(args),
-        "quads" => commands::quads::run(args),
-        "demand" => commands::demand::run(args),
-        "compare" => commands::compare::run(args),
-        "gap" => commands::gap::run(args),
-        "vectors" => commands::vectors::run(args),
-        "examples" => commands::examples::run(args),
-        "help" => {
-            print!("{HELP}");
-            Ok(())
-        }
-        _ => Err(format!("no command {name}\n{HELP}")),
-    }
-}
+const COMMANDS: [Command; 9] = [
+    ("gridlabel", 0..=1, commands::gridlabel::run),
+    ("label", 2..=3, commands::label::run),
+    ("frames", 3..=4, commands::frames::run),
+    ("quads", 4..=4, commands::quads::run),
+    ("compare", 2..=2, commands::compare::run),
+    ("demand", 2..=2, commands::demand::run),
+    ("gap", 2..=2, commands::gap::run),
+    ("vectors", 2..=2, commands::vectors::run),
+    ("examples", 1..=1, commands::examples::run),
+];
 
-fn main() {
-    let args: Vec<String> = std::env::args().skip(1).collect();
-    let name = args.first().map_or("help", String::as_str);
-    if let Err(words) = run(name, args.get(1..).unwrap_or(&[])) {
-        eprintln!("{words}");
-        std::process::exit(2);
-    }
+fn main() -> ExitCode {
+    program(&COMMANDS, HELP)
 }

@@ -1,15 +1,17 @@
-// The original's walk gives what document 01's third demand asks for.
+// The original's walk gives what document 01's third demand asks for, and a wrong one is told.
 
-use oracle::demand::{components, fates};
-use oracle::generate::quad_lists::{quad_list, QUAD_KINDS};
-use oracle::random::Random;
+use oracle::walked::walked;
 
 #[test]
 fn walk_and_demand_agree() {
-    for i in 0..2_100 {
-        let list = quad_list(i % QUAD_KINDS.len(), &mut Random::part(17, i as u64));
-        let walk = plain::label(&list.quads, list.least_quads, list.least_corners);
-        let fates = fates(&list.quads, list.least_quads, list.least_corners);
-        assert_eq!(walk, components(&fates), "{list:?}");
-    }
+    let found = walked(plain::label, 2_100, 17);
+    assert!(found.first.is_none(), "{:?}", found.first);
+}
+
+#[test]
+fn a_wrong_walk_is_told() {
+    let one_at_most = |quads: &[[u32; 4]], least_quads, least_corners| {
+        plain::label(quads, least_quads, least_corners).into_iter().take(1).collect()
+    };
+    assert!(walked(one_at_most, 700, 1).first.is_some());
 }

@@ -32,3 +32,19 @@ fn the_folder() {
         assert_eq!(file(name), text);
     }
 }
+
+#[test]
+fn every_answer() {
+    let folder = Path::new(env!("CARGO_MANIFEST_DIR")).join("../../examples");
+    let mut met = 0;
+    for entry in fs::read_dir(folder).unwrap() {
+        let path = entry.unwrap().path();
+        if path.extension().is_some_and(|end| end == "answer") {
+            let text = fs::read(path.with_extension("")).unwrap();
+            let said = answer(&text, Build::Ruled);
+            assert_eq!(fs::read_to_string(&path).unwrap(), said, "{path:?}");
+            met += 1;
+        }
+    }
+    assert!(met >= examples().len());
+}

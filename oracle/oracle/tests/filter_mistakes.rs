@@ -6,7 +6,7 @@ mod common {
 
 use common::mistakes::{each_is_told, Mistake};
 use oracle::vectors::filters::{filter_cases, Case};
-use oracle::vectors::{OverQuads, Vector};
+use oracle::vectors::{moved, OverQuads, Vector};
 
 type Quad = [u32; 4];
 type Sides = [f32; 4];
@@ -38,8 +38,17 @@ fn share_a_side(p: &Quad, q: &Quad) -> bool {
     ends(p).iter().any(|&(a, b)| ends(q).contains(&(a, b)) || ends(q).contains(&(b, a)))
 }
 
+/// The ratio of two sides, the lesser raised to a number at least.
+fn raised(a: f32, b: f32, tiny: f32) -> f32 {
+    a.max(b) / a.min(b).max(tiny)
+}
+
 fn ratio(a: f32, b: f32) -> f32 {
-    a.max(b) / a.min(b).max(1e-6)
+    raised(a, b, 1e-6)
+}
+
+fn uneven([a, b, c, d]: Sides, limit: f32, tiny: f32) -> bool {
+    raised(a, c, tiny) > limit || raised(b, d, tiny) > limit
 }
 
 const RIGHT: Rules = Rules {
@@ -47,7 +56,7 @@ const RIGHT: Rules = Rules {
     illegal_corners: 2,
     ratio_first: false,
     length: |dx, dy| (dx * dx + dy * dy).sqrt(),
-    uneven: |[a, b, c, d], limit| ratio(a, c) > limit || ratio(b, d) > limit,
+    uneven: |sides, limit| uneven(sides, limit, 1e-6),
     joined: share_a_side,
     groups_after: 2,
     sides: |group| group.iter().flat_map(ends).collect(),
@@ -135,7 +144,7 @@ fn accepted() -> Vec<(Case, Vec<u32>)> {
     found
 }
 
-const CROWDS_AND_RATIOS: [Mistake<Rules>; 15] = [
+const CROWDS_AND_RATIOS: [Mistake<Rules>; 17] = [
     ("four quads are illegal", |r| r.most_incidence = 7),
     ("five quads are legal", |r| r.most_incidence = 10),
     ("one illegal corner drops", |r| r.illegal_corners = 1),
@@ -164,10 +173,17 @@ const CROWDS_AND_RATIOS: [Mistake<Rules>; 15] = [
             plain(a, c) > limit || plain(b, d) > limit
         }
     }),
-    ("raised by another number", |r| {
+    ("raised to the float below 1e-6", |r| {
+        r.uneven = |sides, limit| uneven(sides, limit, moved(1e-6, -1));
+    }),
+    ("raised to the float above 1e-6", |r| {
+        r.uneven = |sides, limit| uneven(sides, limit, moved(1e-6, 1));
+    }),
+    ("raised to 1e-6 below the next float", |r| {
         r.uneven = |[a, b, c, d], limit| {
-            let other = |a: f32, b: f32| a.max(b) / a.min(b).max(9.99999e-7);
-            other(a, c) > limit || other(b, d) > limit
+            let up = |x: f32| if x <= moved(1e-6, 1) { 1e-6 } else { x };
+            let ratio = |a: f32, b: f32| a.max(b) / up(a.min(b));
+            ratio(a, c) > limit || ratio(b, d) > limit
         }
     }),
     ("a product for the quotient", |r| {

@@ -11,7 +11,7 @@ use oracle::demand;
 use oracle::judge::{missing_corner, paired, repeated_corner, Refusal};
 use oracle::told::Told;
 use oracle::vectors::frames::{frame_cases, Case};
-use oracle::vectors::Vector;
+use oracle::vectors::{moved, Vector};
 use oracle::words;
 
 type Quad = [u32; 4];
@@ -46,8 +46,8 @@ fn numbers(case: &Case) -> Option<usize> {
     case.frame.params.floats().iter().position(|p| p.is_nan())
 }
 
-fn positions(case: &Case) -> Option<usize> {
-    let far = |p: &f32| !(p.abs() <= 1_048_576.0);
+fn positions(case: &Case, greatest: f32) -> Option<usize> {
+    let far = |p: &f32| p.is_nan() || p.abs() > greatest;
     case.frame.x.iter().zip(&case.frame.y).position(|(x, y)| far(x) || far(y))
 }
 
@@ -78,7 +78,7 @@ const ROWS: [(u32, Row); 10] = [
     (1, |case, _| lengths(case)),
     (2, |case, _| counts(case)),
     (3, |case, _| numbers(case)),
-    (4, |case, _| positions(case)),
+    (4, |case, _| positions(case, 1_048_576.0)),
     (5, |case, _| missing_corner(&case.frame.triangles, case.frame.corners())),
     (6, |case, _| repeated_corner(&case.frame.triangles, 3)),
     (7, |case, _| twins(case)),
@@ -181,7 +181,12 @@ fn twins_alike(frame: &Frame, axes: &[AxisPair]) -> Vec<u32> {
     (0..classes.len()).map(|e| classes[lower(e)]).collect()
 }
 
-const MISTAKES: [Mistake<Rules>; 34] = [
+/// A number one float on, if there is a finite one.
+fn next(x: f32, steps: i32) -> f32 {
+    Some(moved(x, steps)).filter(|x| x.is_finite()).unwrap_or(x)
+}
+
+const MISTAKES: [Mistake<Rules>; 45] = [
     ("rows 1 and 2 exchanged", |r| exchanged(r, 1)),
     ("rows 2 and 3 exchanged", |r| exchanged(r, 2)),
     ("rows 3 and 4 exchanged", |r| exchanged(r, 3)),
@@ -209,6 +214,37 @@ const MISTAKES: [Mistake<Rules>; 34] = [
     ("corners' places in triangles", |r| {
         r.rows[4].1 =
             |case, _| missing_corner(&case.frame.triangles, case.frame.corners()).map(|p| p / 3);
+    }),
+    ("the greatest position refused", |r| {
+        r.rows[3].1 = |case, _| positions(case, moved(1_048_576.0, -1));
+    }),
+    ("the next position taken", |r| {
+        r.rows[3].1 = |case, _| positions(case, moved(1_048_576.0, 1));
+    }),
+    ("a distance at the tolerance is Grid", |r| {
+        r.params = |p| Params { tolerance: next(p.tolerance, 1), ..p };
+    }),
+    ("a distance just below the tolerance is not", |r| {
+        r.params = |p| Params { tolerance: next(p.tolerance, -1), ..p };
+    }),
+    ("a spread at the limit is informative", |r| {
+        r.params = |p| Params { spread_limit: next(p.spread_limit, 1), ..p };
+    }),
+    ("a spread just below the limit is not", |r| {
+        r.params = |p| Params { spread_limit: next(p.spread_limit, -1), ..p };
+    }),
+    ("a ratio at the limit drops", |r| r.params = |p| Params { ratio: next(p.ratio, -1), ..p }),
+    ("a quad less wanted", |r| {
+        r.params = |p| Params { least_quads: p.least_quads.saturating_sub(1), ..p };
+    }),
+    ("a quad more wanted", |r| {
+        r.params = |p| Params { least_quads: p.least_quads.saturating_add(1), ..p };
+    }),
+    ("a corner less wanted", |r| {
+        r.params = |p| Params { least_corners: p.least_corners.saturating_sub(1), ..p };
+    }),
+    ("a corner more wanted", |r| {
+        r.params = |p| Params { least_corners: p.least_corners.saturating_add(1), ..p };
     }),
     ("no axis cache", |r| r.axes = all_informative),
     ("no diagonals", |r| r.classes = without_diagonals),

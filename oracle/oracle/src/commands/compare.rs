@@ -1,7 +1,7 @@
 // oracle compare COUNT SEED: both builds of the original beside each other on generated frames.
 
-use super::{number, Outcome};
-use oracle::compare::{compare, Difference, Row, Table, STAGES};
+use oracle::command::{count_and_seed, Outcome};
+use oracle::compare::{compare, Difference, Row, Table, SIDES, STAGES};
 
 const HEAD: [&str; 13] = [
     "kind",
@@ -87,8 +87,9 @@ fn print_first(what: &str, difference: &Option<Difference>) {
 }
 
 pub fn run(args: &[String]) -> Outcome {
-    let table = compare(number(args, 0, "COUNT")?, number(args, 1, "SEED")?);
+    let (count, seed) = count_and_seed(args)?;
+    let table = compare(&SIDES, count, seed);
     print_table(&table);
     print_notes(&table);
-    Ok(())
+    Ok(table.same())
 }

@@ -1,7 +1,7 @@
 // oracle frames KIND SEED COUNT [DIR]: generated frames as gridlabel texts, to standard output
 // behind a line with their name, or each into a file of DIR with the ruled answer beside it.
 
-use super::{number, Outcome};
+use oracle::command::{number, Outcome};
 use oracle::generate::bad_text::{spoil, WAYS};
 use oracle::generate::{maker, texts, KINDS};
 use oracle::random::Random;
@@ -17,7 +17,7 @@ const CORNERS: usize = MOST_TEXT_CORNERS;
 fn sound(kind: &str, random: &mut Random) -> Result<String, String> {
     let names: Vec<&str> = KINDS.iter().map(|k| k.0).collect();
     let make = maker(kind)
-        .ok_or_else(|| format!("no kind {kind}; kinds: {} row3 .. row7 bad", names.join(" ")))?;
+        .ok_or_else(|| format!("no kind {kind:?}; kinds: {} row3 .. row7 bad", names.join(" ")))?;
     Ok(texts::sound(make, CORNERS, random))
 }
 
@@ -41,7 +41,7 @@ fn to_files(dir: &Path, name: &str, text: &[u8]) -> std::io::Result<()> {
 }
 
 pub fn run(args: &[String]) -> Outcome {
-    let kind = args.first().ok_or("KIND is missing")?;
+    let kind = &args[0];
     let seed: u64 = number(args, 1, "SEED")?;
     for i in 0..number(args, 2, "COUNT")? {
         let text = text(kind, seed, i)?;
@@ -54,5 +54,5 @@ pub fn run(args: &[String]) -> Outcome {
         };
         done.map_err(|e| e.to_string())?;
     }
-    Ok(())
+    Ok(true)
 }

@@ -1,6 +1,6 @@
 // oracle gap COUNT SEED: the gap between document 01's numbers and the original's.
 
-use super::{number, Outcome};
+use oracle::command::{count_and_seed, Outcome};
 use oracle::gap::{measure, Gap};
 
 fn show(name: &str, words: &str, gap: &Gap) {
@@ -12,11 +12,10 @@ fn show(name: &str, words: &str, gap: &Gap) {
 }
 
 pub fn run(args: &[String]) -> Outcome {
-    let count = number(args, 0, "COUNT")?;
-    let seed = number(args, 1, "SEED")?;
+    let (count, seed) = count_and_seed(args)?;
     let gaps = measure(count, seed);
     show("angle", "dx dy", &gaps.angle);
     show("distance", "angle axis", &gaps.distance);
     show("distance, each from its own angle", "atan2's angle, axis", &gaps.both);
-    Ok(())
+    Ok(true)
 }

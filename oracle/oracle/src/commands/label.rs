@@ -1,6 +1,6 @@
 // oracle label LEASTQUADS LEASTCORNERS [CORNERS]: labels a quad list from standard input.
 
-use super::{number, Outcome};
+use oracle::command::{number, Outcome};
 use oracle::judge::MOST_CORNERS;
 use oracle::quads_text::label_text;
 use std::io::Read;
@@ -15,5 +15,5 @@ pub fn run(args: &[String]) -> Outcome {
     let mut text = String::new();
     std::io::stdin().read_to_string(&mut text).map_err(|e| e.to_string())?;
     print!("{}", label_text(&text, least_quads, least_corners, corners));
-    Ok(())
+    Ok(true)
 }

@@ -1,7 +1,7 @@
 // oracle quads KIND SEED COUNT DIR: generated quad lists, each in a file with its arguments for
 // `oracle label` and the answer beside it.
 
-use super::{number, Outcome};
+use oracle::command::{number, Outcome};
 use oracle::generate::quad_lists::{quad_list, QUAD_KINDS};
 use oracle::quads_text::label_text;
 use oracle::random::Random;
@@ -18,18 +18,18 @@ fn write(dir: &Path, name: &str, kind: usize, random: &mut Random) -> std::io::R
 }
 
 pub fn run(args: &[String]) -> Outcome {
-    let name = args.first().ok_or("KIND is missing")?;
+    let name = &args[0];
     let names: Vec<&str> = QUAD_KINDS.iter().map(|k| k.0).collect();
     let kind = names
         .iter()
         .position(|n| n == name)
-        .ok_or_else(|| format!("no kind {name}; kinds: {}", names.join(" ")))?;
+        .ok_or_else(|| format!("no kind {name:?}; kinds: {}", names.join(" ")))?;
     let seed: u64 = number(args, 1, "SEED")?;
-    let dir = Path::new(args.get(3).ok_or("DIR is missing")?);
+    let dir = Path::new(&args[3]);
     std::fs::create_dir_all(dir).map_err(|e| e.to_string())?;
     for i in 0..number(args, 2, "COUNT")? {
         let file = format!("{name}-{seed}-{i}");
         write(dir, &file, kind, &mut Random::part(seed, i)).map_err(|e| e.to_string())?;
     }
-    Ok(())
+    Ok(true)
 }

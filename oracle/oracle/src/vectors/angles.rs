@@ -74,6 +74,24 @@ fn refused_and_least_refused(rows: &mut Pairs) {
     }
 }
 
+/// Quotients at which a coefficient of the series one float off, or one of its sums rounded once
+/// with its product, changes the angle: for each such mistake the least four from 2^-8 on, or as
+/// many as there are (tests/angle_mistakes.rs).
+const TELLING: [u32; 61] = [
+    0x3B819D8C, 0x3B848B84, 0x3B86B34A, 0x3B876943, 0x3B881E49, 0x3B8A37CC, 0x3B8EFF50, 0x3B9250CB,
+    0x3B9EE5B6, 0x3B9F8017, 0x3CCCDFFD, 0x3D1E2381, 0x3D59B23E, 0x3D5B7586, 0x3D5ED785, 0x3D6087F4,
+    0x3D66C62E, 0x3D683E7B, 0x3D6B2814, 0x3D70A061, 0x3D796678, 0x3DF2079E, 0x3DF2ED7D, 0x3DF450F7,
+    0x3DF98AC9, 0x3E055284, 0x3E0A941E, 0x3E12CCEA, 0x3E133279, 0x3E1F5D3F, 0x3E209F0C, 0x3E53E032,
+    0x3E609C91, 0x3E618138, 0x3E6A4505, 0x3E6FB764, 0x3E79B3B3, 0x3E9B2F16, 0x3EA4AD2C, 0x3EA5D626,
+    0x3EB0E8A8, 0x3EB254C7, 0x3EB2A150, 0x3EB37BA9, 0x3EB457E4, 0x3EB58506, 0x3EBA13C9, 0x3EC3DAD1,
+    0x3EC56656, 0x3EC6CC1C, 0x3ECBF1B7, 0x3ECE840C, 0x3ED15F97, 0x3EEF0BB7, 0x3EEF0BB8, 0x3EEF0BB9,
+    0x3F03663A, 0x3F0BDA7B, 0x3F0BDA81, 0x3F0BDA83, 0x3F0BDA94,
+];
+
+fn telling(rows: &mut Pairs) {
+    TELLING.iter().for_each(|&bits| add(rows, 1.0, f32::from_bits(bits)));
+}
+
 fn small_whole_numbers(rows: &mut Pairs) {
     for dx in -8..=8 {
         for dy in -8..=8 {
@@ -104,6 +122,7 @@ pub fn angles() -> [Vec<[u32; 2]>; 2] {
     bends(&mut rows, &mut random);
     small_whole_numbers(&mut rows);
     subnormals(&mut rows, &mut random);
+    telling(&mut rows);
     let mut kind = 0;
     while rows.len() < 7_000 {
         let (dx, dy) = difference(&mut random, kind % KINDS);

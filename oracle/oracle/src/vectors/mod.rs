@@ -25,11 +25,30 @@ mod write;
 pub use angles::angles;
 pub use counts::Summed;
 pub use distances::distances;
+pub use form::moved;
 pub use over_quads::OverQuads;
 pub use pack::Written;
 pub use roots::roots;
+use std::path::Path;
+use std::{fmt, io};
 pub use vector::{Answer, Vector};
-pub use write::write_numbers;
+
+/// Writes the vectors of a kind into a folder, and says what was written.
+pub type Write = fn(&Path) -> io::Result<String>;
+
+fn said<S: fmt::Display>(written: io::Result<Written<S>>) -> io::Result<String> {
+    written.map(|written| written.to_string())
+}
+
+/// All kinds of vectors: those of a kind are replayed by the crate `replay_` and its name.
+pub const KINDS: [(&str, Write); 6] = [
+    ("numbers", |folder| said(write::write_numbers(folder))),
+    ("stages", |folder| said(stages::write_stages(folder))),
+    ("filters", |folder| said(filters::write_filters(folder))),
+    ("labels", |folder| said(labels::write_labels(folder))),
+    ("frames", |folder| said(frames::write_frames(folder))),
+    ("texts", |folder| said(texts::write_texts(folder))),
+];
 
 /// Hands out single numbers or pairs by their bits, each once, in the order given.
 #[derive(Default)]

@@ -3,7 +3,7 @@
 use std::io;
 use std::path::Path;
 
-use super::pack::{write, File};
+use super::pack::{write, File, Written};
 use super::{angles, distances, roots};
 
 fn word(x: f32) -> String {
@@ -46,9 +46,9 @@ fn files() -> [File; 5] {
 }
 
 /// Writes everything into a folder and says how many rows each file has.
-pub fn write_numbers(folder: &Path) -> io::Result<Vec<(String, usize)>> {
+pub fn write_numbers(folder: &Path) -> io::Result<Written<String>> {
     let files = files();
-    write(folder, &files)?;
     let rows = |file: &File| file.cases.split(|&b| b == b'\n').count() - 1;
-    Ok(files.iter().map(|file| (file.name.clone(), rows(file))).collect())
+    let summary = files.iter().map(|file| format!("{} {} rows\n", file.name, rows(file))).collect();
+    Ok(Written { files: write(folder, &files)?, summary })
 }

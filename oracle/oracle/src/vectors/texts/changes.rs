@@ -30,6 +30,12 @@ fn all(texts: &mut Vec<Vec<u8>>) {
     }
 }
 
+/// A comma for each blank of the short text.
+fn commas(texts: &mut Vec<Vec<u8>>) {
+    let blanks = SHORT.match_indices(' ');
+    texts.extend(blanks.map(|(place, _)| spliced(SHORT, place, place + 1, b",")));
+}
+
 /// At each place of document 01's text one left out, and two drawn ones in its place.
 fn some(texts: &mut Vec<Vec<u8>>) {
     let mut random = Random::new(41);
@@ -43,6 +49,7 @@ fn some(texts: &mut Vec<Vec<u8>>) {
 pub fn texts() -> Vec<Vec<u8>> {
     let mut texts = vec![SHORT.as_bytes().to_vec()];
     all(&mut texts);
+    commas(&mut texts);
     some(&mut texts);
     let mut seen = std::collections::HashSet::new();
     texts.retain(|text| seen.insert(text.clone()));

@@ -47,7 +47,7 @@ const FLOATS: [&str; 18] = [
 ];
 
 /// Words for a place where a decimal may stand.
-const WHOLES: [&str; 24] = [
+const WHOLES: [&str; 27] = [
     "0",
     "1",
     "9",
@@ -58,6 +58,9 @@ const WHOLES: [&str; 24] = [
     "4294967300",
     "9999999999",
     "10000000000",
+    "42949672960",
+    "42949672961",
+    "99999999999",
     "18446744073709551616",
     "18446744073709551617",
     "00",
@@ -119,6 +122,18 @@ fn blanks(texts: &mut Vec<String>) {
     }
 }
 
+/// Every byte in the place of a blank, of a float's digit and of a decimal.
+fn every_byte() -> Vec<Vec<u8>> {
+    let places = [1, 2, P.len() - 4];
+    let bytes = |place| (0..=u8::MAX).map(move |byte| (place, byte));
+    let text = |(place, byte)| {
+        let mut text = P.as_bytes().to_vec();
+        text[place] = byte;
+        text
+    };
+    places.into_iter().flat_map(bytes).map(text).collect()
+}
+
 /// Document 01's text, and the same with a twin written out, with other least numbers, and with
 /// lines left out.
 fn squares(texts: &mut Vec<String>) {
@@ -139,7 +154,9 @@ pub fn texts() -> Vec<Vec<u8>> {
     fields(&mut texts);
     blanks(&mut texts);
     squares(&mut texts);
+    let mut texts: Vec<Vec<u8>> = texts.into_iter().map(String::into_bytes).collect();
+    texts.extend(every_byte());
     let mut seen = std::collections::HashSet::new();
     texts.retain(|text| seen.insert(text.clone()));
-    texts.into_iter().map(String::into_bytes).collect()
+    texts
 }
