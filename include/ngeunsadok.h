@@ -1,15 +1,33 @@
-/* The calls of libabi.a for C99 and later. crates/abi/src/lib.rt declares the same calls with their contracts, which are proved for all
- * inputs: every call ends, refuses exactly by the table below, and writes nothing but what is said here. This header is kept in step by
- * hand; tools/try-c compiles it and makes one call of each kind.
+/* The calls of libabi.a for C99 and later, and for C++. crates/abi/src/lib.rt declares the same calls with their contracts, which are proved
+ * for all inputs: every call ends, refuses exactly by the table below, and writes nothing but what is said here. The tests of rust/ hold
+ * the declarations below against those; tools/try-c compiles this header and makes calls of each kind. docs/GUIDE.md tells what a frame
+ * is and where its lists come from; examples/frame.c labels one.
  *
  * LINKING
- * On x86-64 `rt staticlib abi` writes target/staticlib/libabi.a; `tools/native-archive abi OUT` writes one for this machine's processor.
- * Then: cc -Iinclude program.c libabi.a -lm (for C's fmodf; beside it the archive asks for memset alone, and has no state).
+ * On x86-64 `rt staticlib abi` writes target/staticlib/libabi.a; `tools/native-archive abi OUT` writes one for this machine's processor,
+ * and with a target as third word one for that. Then: cc -Iinclude program.c libabi.a -lm (for C's fmodf; beside it the archive asks for
+ * memset alone).
+ *
+ * FLOATING POINT
+ * The proofs are about IEEE 754 as a program has it at its start: rounding to nearest, subnormals kept. A call made in a thread with
+ * another rounding, or with subnormals flushed to zero, may answer wrong. A program linked with -ffast-math flushes from its start on, and
+ * then the root of 00000001 is 00000001 and not 1A3504F3. ngeunsadok_float_settings_hold() below tells.
+ *
+ * THREADS
+ * The archive has no state. Calls may run in several threads at once; a list that a call writes (work too) is that call's alone meanwhile,
+ * and lists that are only read may be shared.
+ *
+ * STACK
+ * No call is recursive or allocates. The most that a call takes, with C's fmodf and memset and their first call through a dynamic linker:
+ *   ngeunsadok_label_frame                               96 KiB (NGEUNSADOK_STACK)
+ *   ngeunsadok_filter_quads, ngeunsadok_label_components 24 KiB
+ *   the others                                            8 KiB
+ * tools/try-c measures each call at the limits and holds it to these.
  *
  * LISTS
- * A list is two arguments: a pointer to its first element, then the number of its elements (not bytes). What the proofs take for granted
- * is what C cannot check: the pointer is aligned and not null, also where the number is 0, that many elements are there, and a list that
- * a call may write shares no memory with another list of the same call.
+ * A list is two arguments: a pointer to its first element, then the number of its elements (not bytes). A list of no elements may have a
+ * null pointer: no call looks at it. What the proofs take for granted is what C cannot check: the pointer is aligned, that many elements
+ * are there, and a list that a call may write shares no memory with another list of the same call.
  *
  *   x, y        one float a corner; corners are numbered from 0
  *   angles      two floats a corner, slot 0 then slot 1: corner k has elements 2k and 2k + 1; any float, NaN too
@@ -53,6 +71,7 @@
 
 #include <stddef.h>
 #include <stdint.h>
+#include <string.h>
 
 #ifdef __cplusplus
 extern "C" {
@@ -64,8 +83,30 @@ extern "C" {
 #define NGEUNSADOK_MOST_HALF_EDGES 24576
 #define NGEUNSADOK_MOST_QUADS 4096
 
+/* Bytes of stack that any call does with. */
+#define NGEUNSADOK_STACK 98304
+
+/* Refusals by their numbers in the table above. */
+enum {
+    NGEUNSADOK_DONE = 0,
+    NGEUNSADOK_LENGTHS = 1,
+    NGEUNSADOK_LIMIT = 2,
+    NGEUNSADOK_PARAMETER = 3,
+    NGEUNSADOK_RANGE = 4,
+    NGEUNSADOK_NAMED = 5,
+    NGEUNSADOK_TWICE = 6,
+    NGEUNSADOK_TWIN = 7,
+    NGEUNSADOK_WORKSPACE = 8,
+    NGEUNSADOK_RECORDS = 9,
+    NGEUNSADOK_ENTRIES = 10
+};
+
 /* The words of workspace that a whole frame asks for, with the number of its half-edges, that is, the elements of triangles. */
 #define NGEUNSADOK_FRAME_WORK(half_edges, corners) (16 * ((size_t)(half_edges) + (size_t)(corners)))
+
+/* Records of components and of entries that always have room for a whole frame's answer: of two triangles comes one quad at most. */
+#define NGEUNSADOK_FRAME_COMPONENTS(half_edges) ((size_t)(half_edges) / 6)
+#define NGEUNSADOK_FRAME_ENTRIES(half_edges) (4 * ((size_t)(half_edges) / 6))
 
 /* The words of workspace that the filters and the labelling ask for, each with the number of its input quads. */
 #define NGEUNSADOK_QUAD_WORK(quads, corners) (32 * (size_t)(quads) + 16 * (size_t)(corners))
@@ -110,6 +151,48 @@ typedef struct {
     uint32_t entries;
 } ngeunsadok_counts;
 
+/* A component: the entries before its own, how many are its own, and the places in its rectangle that hold no corner. */
+typedef struct {
+    uint32_t before;
+    uint32_t entries;
+    uint32_t holes;
+} ngeunsadok_component;
+
+/* A corner and its place on the lattice. */
+typedef struct {
+    uint32_t u;
+    uint32_t v;
+    uint32_t corner;
+} ngeunsadok_entry;
+
+/* The parameters of a whole frame; beside each the name and the default that the original Rust library (NOTICE names it) has for it. None
+ * is NaN. */
+typedef struct {
+    float tolerance;       /* axis_align_tol_rad, 15 degrees: nearer than this, in radians, to an axis at both ends is a Grid side */
+    float ratio;           /* opposing_edge_ratio_max, 1.5: the greatest ratio of two opposing sides of a quad */
+    float least;           /* edge_length_min_rel, 0.4: the shortest side, in medians of its group; 0 or less for no bound */
+    float greatest;        /* edge_length_max_rel, 2.5: the longest side, in medians of its group; infinity for no bound */
+    float limit;           /* max_axis_sigma_rad, 0.6: an axis with a spread, in radians, of this or more does not count */
+    uint32_t leastquads;   /* min_quads_per_component, 1: the quads that a group has for it to become a component */
+    uint32_t leastcorners; /* min_corners_for_component, 4: the corners alone on their places that it has as well */
+} ngeunsadok_params;
+
+/* The original's defaults: ngeunsadok_params params = NGEUNSADOK_DEFAULT_PARAMS; */
+#define NGEUNSADOK_DEFAULT_PARAMS {0.261799395f, 1.5f, 0.4f, 2.5f, 0.6f, 1, 4}
+
+/* What a whole frame reads, laid out as above. */
+typedef struct {
+    size_t corners;            /* how many there are */
+    const float *x;            /* corners */
+    const float *y;            /* corners */
+    const float *angles;       /* 2 * corners */
+    const uint32_t *marks;     /* 2 * corners */
+    const float *spreads;      /* 2 * corners */
+    size_t half_edges;         /* how many there are, three a triangle */
+    const uint32_t *triangles; /* half_edges */
+    const uint32_t *twins;     /* half_edges */
+} ngeunsadok_frame;
+
 /* The IEEE 754 square root. Row 4. */
 ngeunsadok_number ngeunsadok_root(float x);
 
@@ -132,7 +215,7 @@ ngeunsadok_cache ngeunsadok_axis_cache(float angle0, uint32_t marked0, float spr
  * Written: components, three words each, by their lowest quads; and entries, three words each, in order of u, then v, within a component.
  * With h elements of triangles there are at most h / 6 components and 4 * (h / 6) entries, both divisions rounded down: lists of
  * 3 * (h / 6) and 12 * (h / 6) words always have room.
- * Lent: work, of NGEUNSADOK_FRAME_WORK(h, corners) words or more. The call also takes some 84 KiB of stack.
+ * Lent: work, of NGEUNSADOK_FRAME_WORK(h, corners) words or more. ngeunsadok_label below makes the same call with structs.
  *
  * Rows 1 to 10. Rows 1 to 8 leave work, components and entries as they were. Rows 9 and 10 leave components and entries as they were and
  * all of work zero. Success leaves all of work zero, and components and entries as they were past the answer. */
@@ -170,6 +253,59 @@ ngeunsadok_count ngeunsadok_filter_quads(const float *x, size_t x_count, const f
 ngeunsadok_counts ngeunsadok_label_components(const uint32_t *quads, size_t quad_words, uint32_t corners, uint32_t leastquads,
                                               uint32_t leastcorners, uint32_t *work, size_t work_words, uint32_t *components,
                                               size_t component_words, uint32_t *entries, size_t entry_words);
+
+/* ngeunsadok_label_frame with its arguments in structs. work_words is in words; the other counts are in records. */
+static inline ngeunsadok_counts ngeunsadok_label(const ngeunsadok_frame *frame, const ngeunsadok_params *params, uint32_t *work,
+                                                 size_t work_words, ngeunsadok_component *components, size_t component_count,
+                                                 ngeunsadok_entry *entries, size_t entry_count) {
+    return ngeunsadok_label_frame(frame->x, frame->corners, frame->y, frame->corners, frame->angles, 2 * frame->corners, frame->marks,
+                                  2 * frame->corners, frame->spreads, 2 * frame->corners, frame->triangles, frame->half_edges,
+                                  frame->twins, frame->half_edges, params->tolerance, params->ratio, params->least, params->greatest,
+                                  params->limit, params->leastquads, params->leastcorners, work, work_words, (uint32_t *)components,
+                                  3 * component_count, (uint32_t *)entries, 3 * entry_count);
+}
+
+/* What a refusal says, and what its place is. */
+static inline const char *ngeunsadok_words(uint32_t refused) {
+    switch (refused) {
+    case NGEUNSADOK_DONE: return "not refused";
+    case NGEUNSADOK_LENGTHS: return "paired lists differ in length, or a list of triangles or quads is not whole";
+    case NGEUNSADOK_LIMIT: return "there are more than 4,096 corners, 24,576 half-edges or 4,096 quads";
+    case NGEUNSADOK_PARAMETER:
+        return "a parameter is NaN; place: 0 tolerance, 1 ratio, 2 least length, 3 greatest length, 4 spread limit";
+    case NGEUNSADOK_RANGE: return "a position, or the single number given, is out of range; place: the corner, or 0";
+    case NGEUNSADOK_NAMED: return "a corner that does not exist is named, or a class is above 2; place: the position in its list";
+    case NGEUNSADOK_TWICE: return "a triangle or quad names a corner twice; place: the triangle or quad";
+    case NGEUNSADOK_TWIN: return "a twin does not exist, point back, or run the other way; place: the half-edge";
+    case NGEUNSADOK_WORKSPACE: return "the workspace is too short; place: the words wanted";
+    case NGEUNSADOK_RECORDS: return "the list of components or quads is too short; place: the records wanted";
+    case NGEUNSADOK_ENTRIES: return "the list of entries is too short; place: the entries wanted";
+    default: return "a refusal that this header does not know";
+    }
+}
+
+static inline float ngeunsadok_from_bits(uint32_t word) {
+    float value;
+    memcpy(&value, &word, sizeof value);
+    return value;
+}
+
+static inline uint32_t ngeunsadok_bits(float value) {
+    uint32_t word;
+    memcpy(&word, &value, sizeof word);
+    return word;
+}
+
+/* 1 where this thread rounds to nearest and keeps subnormals, as the calls ask, else 0. It asks the archive itself: for the root of the
+ * least float, for a difference below the least normal float, and for two differences that are 1 when rounded to nearest. */
+static inline int ngeunsadok_float_settings_hold(void) {
+    const uint32_t one = 0x3F800000, small = 0x30800000, least_normal = 0x00800000;
+
+    return ngeunsadok_bits(ngeunsadok_root(ngeunsadok_from_bits(1)).value) == 0x1A3504F3 &&
+           ngeunsadok_bits(ngeunsadok_distance(ngeunsadok_from_bits(0x00C00000), ngeunsadok_from_bits(least_normal)).value) == 0x00400000 &&
+           ngeunsadok_bits(ngeunsadok_distance(ngeunsadok_from_bits(one), ngeunsadok_from_bits(small)).value) == one &&
+           ngeunsadok_bits(ngeunsadok_distance(ngeunsadok_from_bits(one), ngeunsadok_from_bits(small | 0x80000000)).value) == one;
+}
 
 #ifdef __cplusplus
 }

@@ -1,5 +1,5 @@
-/* One call of each kind through ngeunsadok.h, with answers that document 01 gives. tools/try-c compiles, links and runs it; it ends with
- * status 0 and one line where all answers are right, else it names the line of each wrong one. */
+/* Calls of each kind through ngeunsadok.h, with the answers that its rules give. tools/try-c compiles it as C and as C++, links and runs it;
+ * it ends with status 0 and one line where all answers are right, else it names the line of each wrong one. */
 #include "ngeunsadok.h"
 
 #include <stdio.h>
@@ -15,17 +15,9 @@ static int wrong = 0;
         }                                                    \
     } while (0)
 
-static uint32_t bits(float value) {
-    uint32_t word;
-    memcpy(&word, &value, sizeof word);
-    return word;
-}
+static uint32_t bits(float value) { return ngeunsadok_bits(value); }
 
-static float from_bits(uint32_t word) {
-    float value;
-    memcpy(&value, &word, sizeof value);
-    return value;
-}
+static float from_bits(uint32_t word) { return ngeunsadok_from_bits(word); }
 
 static void numbers(void) {
     ngeunsadok_number root = ngeunsadok_root(2.0f);
@@ -47,7 +39,7 @@ static void axis(void) {
     EXPECT(cache.refused == 3 && cache.place == 4 && cache.angle0 == 0.0f && cache.informative0 == 0);
 }
 
-/* The frame of document 01's example: a square of four corners in two triangles. 77 stands in a list before a call. */
+/* A square of four corners in two triangles, as in examples/square. 77 stands in a list before a call. */
 #define NONE NGEUNSADOK_NO_TWIN
 static const float x[4] = {0, 10, 10, 0}, y[4] = {0, 0, 10, 10};
 static const uint32_t triangles[6] = {0, 1, 2, 0, 2, 3}, twins[6] = {NONE, NONE, 3, 2, NONE, NONE};
@@ -133,6 +125,96 @@ static void labels(void) {
     EXPECT(memcmp(entries, placed, sizeof entries) == 0);
 }
 
+/* The frame in structs answers as it does word by word, and the defaults are the original's to the bit. */
+static void structs(void) {
+    const ngeunsadok_frame square_frame = {4, x, y, angles, marks, spreads, 6, triangles, twins};
+    ngeunsadok_params params = NGEUNSADOK_DEFAULT_PARAMS;
+    ngeunsadok_component component = {77, 77, 77};
+    ngeunsadok_entry entry[4];
+    ngeunsadok_counts counts;
+
+    EXPECT(bits(params.tolerance) == 0x3E860A92 && bits(params.ratio) == 0x3FC00000 && bits(params.least) == 0x3ECCCCCD);
+    EXPECT(bits(params.greatest) == 0x40200000 && bits(params.limit) == 0x3F19999A);
+    EXPECT(params.leastquads == 1 && params.leastcorners == 4);
+    EXPECT(NGEUNSADOK_FRAME_COMPONENTS(6) == 1 && NGEUNSADOK_FRAME_ENTRIES(6) == 4);
+    counts = ngeunsadok_label(&square_frame, &params, work, 160, &component, 1, entry, 4);
+    EXPECT(counts.refused == NGEUNSADOK_DONE && counts.components == 1 && counts.entries == 4);
+    EXPECT(component.before == 0 && component.entries == 4 && component.holes == 0);
+    EXPECT(memcmp(entry, placed, sizeof entry) == 0);
+    counts = ngeunsadok_label(&square_frame, &params, work, 160, &component, 1, entry, 3);
+    EXPECT(counts.refused == NGEUNSADOK_ENTRIES && counts.place == 4);
+    counts = ngeunsadok_label(&square_frame, &params, work, 160, &component, 0, entry, 4);
+    EXPECT(counts.refused == NGEUNSADOK_RECORDS && counts.place == 1);
+}
+
+/* Each parameter of the struct reaches its own argument: NaN in one is refused with its own place, and the leasts drop the component. */
+static void parameters(void) {
+    const ngeunsadok_frame square_frame = {4, x, y, angles, marks, spreads, 6, triangles, twins};
+    const ngeunsadok_params defaults = NGEUNSADOK_DEFAULT_PARAMS;
+    ngeunsadok_component component;
+    ngeunsadok_entry entry[4];
+    uint32_t k;
+
+    for (k = 0; k < 5; k++) {
+        ngeunsadok_params params = defaults;
+        float *const at[5] = {&params.tolerance, &params.ratio, &params.least, &params.greatest, &params.limit};
+        ngeunsadok_counts counts;
+
+        *at[k] = from_bits(0x7FC00000);
+        counts = ngeunsadok_label(&square_frame, &params, work, 160, &component, 1, entry, 4);
+        EXPECT(counts.refused == NGEUNSADOK_PARAMETER && counts.place == k);
+    }
+    for (k = 0; k < 4; k++) {
+        ngeunsadok_params params = defaults;
+
+        params.leastquads = k < 2 ? 1 + k : 1;
+        params.leastcorners = k < 2 ? 4 : 2 + k;
+        EXPECT(ngeunsadok_label(&square_frame, &params, work, 160, &component, 1, entry, 4).components == (k == 0 || k == 2));
+    }
+}
+
+/* A null pointer is a list of no elements. */
+static void nothing(void) {
+    const ngeunsadok_frame none = {0, NULL, NULL, NULL, NULL, NULL, 0, NULL, NULL};
+    const ngeunsadok_params params = NGEUNSADOK_DEFAULT_PARAMS;
+    ngeunsadok_count count;
+    ngeunsadok_counts counts = ngeunsadok_label(&none, &params, NULL, 0, NULL, 0, NULL, 0);
+
+    EXPECT(counts.refused == 0 && counts.place == 0 && counts.components == 0 && counts.entries == 0);
+    EXPECT(ngeunsadok_classify_all_edges(NULL, 0, NULL, 0, NULL, 0, NULL, 0, NULL, 0, NULL, 0, 0.25f, 1, NULL, 0).refused == 0);
+    count = ngeunsadok_merge_triangle_pairs(NULL, 0, NULL, 0, NULL, 0, NULL, 0, NULL, 0, NULL, 0);
+    EXPECT(count.refused == 0 && count.count == 0);
+    count = ngeunsadok_filter_quads(NULL, 0, NULL, 0, NULL, 0, 1.5f, 0.5f, 2, NULL, 0, NULL, 0);
+    EXPECT(count.refused == 0 && count.count == 0);
+    counts = ngeunsadok_label_components(NULL, 0, 0, 1, 4, NULL, 0, NULL, 0, NULL, 0);
+    EXPECT(counts.refused == 0 && counts.components == 0 && counts.entries == 0);
+}
+
+/* Null output lists beside a frame that has an answer are lists without room, and a null workspace one too short. */
+static void no_room(void) {
+    const ngeunsadok_frame square_frame = {4, x, y, angles, marks, spreads, 6, triangles, twins};
+    const ngeunsadok_params params = NGEUNSADOK_DEFAULT_PARAMS;
+    ngeunsadok_component component = {77, 77, 77};
+    ngeunsadok_counts counts = ngeunsadok_label(&square_frame, &params, NULL, 0, NULL, 0, NULL, 0);
+
+    EXPECT(counts.refused == NGEUNSADOK_WORKSPACE && counts.place == 160);
+    counts = ngeunsadok_label(&square_frame, &params, work, 160, NULL, 0, NULL, 0);
+    EXPECT(counts.refused == NGEUNSADOK_RECORDS && counts.place == 1);
+    counts = ngeunsadok_label(&square_frame, &params, work, 160, &component, 1, NULL, 0);
+    EXPECT(counts.refused == NGEUNSADOK_ENTRIES && counts.place == 4 && component.before == 77);
+    EXPECT(ngeunsadok_merge_triangle_pairs(x, 4, NULL, 0, triangles, 6, twins, 6, twins, 6, NULL, 0).refused == NGEUNSADOK_LENGTHS);
+}
+
+/* Each refusal has words of its own, and a number without a row has some too. */
+static void words(void) {
+    uint32_t k, other;
+
+    for (k = 0; k <= 11; k++)
+        for (other = 0; other < k; other++) EXPECT(strcmp(ngeunsadok_words(k), ngeunsadok_words(other)) != 0);
+    EXPECT(strcmp(ngeunsadok_words(11), ngeunsadok_words(77)) == 0);
+    EXPECT(strstr(ngeunsadok_words(NGEUNSADOK_TWIN), "twin") != NULL);
+}
+
 int main(void) {
     numbers();
     axis();
@@ -140,6 +222,11 @@ int main(void) {
     stages();
     filters();
     labels();
-    if (!wrong) puts("C: every call answers as document 01 says");
+    structs();
+    parameters();
+    nothing();
+    no_room();
+    words();
+    if (!wrong) puts("C: every call answers as the rules say");
     return wrong;
 }

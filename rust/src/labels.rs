@@ -9,19 +9,37 @@ pub const fn quad_work(quads: usize, corners: usize) -> usize {
     32 * quads + 16 * corners
 }
 
-/// The greatest ratio of opposing sides, and the least and greatest length of a side relative to the median of its group.
+/// What the filters drop. None is NaN. The defaults are those of the original Rust library, whose names are beside the fields.
 #[derive(Clone, Copy, Debug, PartialEq)]
 pub struct FilterParams {
+    /// The greatest ratio of two opposing sides of a quad: `opposing_edge_ratio_max`, 1.5.
     pub ratio: f32,
+    /// The shortest side, relative to the median of its group: `edge_length_min_rel`, 0.4. 0 or less is no bound.
     pub least: f32,
+    /// The longest side, relative to the median of its group: `edge_length_max_rel`, 2.5. An infinity is no bound.
     pub greatest: f32,
 }
 
-/// The least quads of a group, and the least corners that stand alone on their places, for it to become a component.
+impl Default for FilterParams {
+    fn default() -> FilterParams {
+        FilterParams { ratio: 1.5, least: 0.4, greatest: 2.5 }
+    }
+}
+
+/// What a group of quads has for it to become a component. The defaults are those of the original Rust library, whose names are beside the
+/// fields.
 #[derive(Clone, Copy, Debug, PartialEq, Eq)]
 pub struct LabelParams {
+    /// The least quads of a group: `min_quads_per_component`, 1.
     pub quads: u32,
+    /// The least corners that stand alone on their places: `min_corners_for_component`, 4.
     pub corners: u32,
+}
+
+impl Default for LabelParams {
+    fn default() -> LabelParams {
+        LabelParams { quads: 1, corners: 4 }
+    }
 }
 
 /// A component: the entries before its own, how many are its own, and the places of its rectangle that hold no corner.
@@ -49,7 +67,8 @@ pub struct Counts {
     pub entries: usize,
 }
 
-/// Writes the quads that pass the three filters to the front of `kept`, and answers how many. `work` has [`quad_work`] words or more.
+/// Writes the quads that pass the three filters to the front of `kept`, and answers how many. `work` has [`quad_work`] words or more. The
+/// call takes at most 24 KiB of stack.
 pub fn filter_quads(
     corners: Positions,
     quads: &[Quad],
@@ -80,7 +99,7 @@ pub fn filter_quads(
 }
 
 /// Writes the components and the entries of all to the fronts of their lists. There are at most as many components as quads, and four
-/// entries for each quad. `work` has [`quad_work`] words or more.
+/// entries for each quad. `work` has [`quad_work`] words or more. The call takes at most 24 KiB of stack.
 pub fn label_components(
     quads: &[Quad],
     corners: u32,

@@ -11,7 +11,8 @@ pub fn root(x: f32) -> Result<f32, Refusal> {
     told(root.refused, root.place, root.value)
 }
 
-/// The angle of (dx, dy) in radians, by document 01's rule. Refuses a difference that is not finite or above 2,097,152 in magnitude.
+/// The angle of (dx, dy) in radians, by the port's own rule and not by the machine's `atan2`. Refuses a difference that is not finite or
+/// above 2,097,152 in magnitude.
 #[inline]
 pub fn angle(dx: f32, dy: f32) -> Result<f32, Refusal> {
     // SAFETY: numbers alone cross the boundary.
@@ -58,4 +59,16 @@ pub fn axis_cache(axes: [Axis; 2], limit: f32) -> Result<AxisCache, Refusal> {
     };
     let informative = [cache.informative0 == 1, cache.informative1 == 1];
     told(cache.refused, cache.place, AxisCache { angles: [cache.angle0, cache.angle1], informative })
+}
+
+/// Whether this thread rounds to nearest and keeps subnormals, as every call asks: see [the crate's page](crate#floating-point). It asks the
+/// archive itself, for the root of the least float, for a difference below the least normal float, and for two differences that are 1 when
+/// rounded to nearest.
+pub fn float_settings_hold() -> bool {
+    let small = f32::from_bits(0x3080_0000);
+    let near = |angle: f32, axis: f32| axis_distance(angle, axis).map(f32::to_bits);
+    root(f32::from_bits(1)).map(f32::to_bits) == Ok(0x1A35_04F3)
+        && near(f32::from_bits(0x00C0_0000), f32::MIN_POSITIVE) == Some(0x0040_0000)
+        && near(1.0, small) == Some(0x3F80_0000)
+        && near(1.0, -small) == Some(0x3F80_0000)
 }

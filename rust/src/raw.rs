@@ -1,5 +1,5 @@
 // The archive's calls as C declares them (include/ngeunsadok.h): each list a pointer, then the number of its elements.
-// The declarations follow crates/abi/src/lib.rt; the tests make one call of each.
+// A test holds these declarations, those of the header and those of crates/abi/src/lib.rt against each other.
 
 #[repr(C)]
 pub struct Number {

@@ -16,7 +16,8 @@ pub struct Positions<'a> {
     pub y: &'a [f32],
 }
 
-/// The axes of the corners: two slots a corner in each list. A mark of 0 says that the spread in its slot is missing.
+/// The axes of the corners: two slots a corner in each list, corner k at 2k and 2k + 1. Angles and spreads are in radians. A mark of 0 says
+/// that the spread in its slot is missing.
 #[derive(Clone, Copy, Debug)]
 pub struct Axes<'a> {
     pub angles: &'a [f32],
@@ -24,11 +25,20 @@ pub struct Axes<'a> {
     pub spreads: &'a [f32],
 }
 
-/// The tolerance of a match, and the limit below which a spread is informative.
+/// How a side is matched with the axes at its ends. None is NaN. The defaults are those of the original Rust library, whose names are
+/// beside the fields.
 #[derive(Clone, Copy, Debug, PartialEq)]
 pub struct EdgeParams {
+    /// In radians: a side nearer than this to an axis at both ends is Grid. `axis_align_tol_rad`, 15 degrees.
     pub tolerance: f32,
+    /// In radians: an axis with a spread of this or more does not count. `max_axis_sigma_rad`, 0.6.
     pub limit: f32,
+}
+
+impl Default for EdgeParams {
+    fn default() -> EdgeParams {
+        EdgeParams { tolerance: 15f32.to_radians(), limit: 0.6 }
+    }
 }
 
 /// The half-edges: the corner that each runs from, its twin or [`NO_TWIN`], its class (0 Spurious, 1 Grid, 2 Diagonal).

@@ -1,8 +1,9 @@
-// What the calls answer: document 01's numbers, its examples of labelling, and its frame from triangles to entries.
+// What the calls answer: the numbers and the examples of labelling in the customer's paper (document 01), and its square from triangles to
+// entries.
 
 use ngeunsadok::*;
 
-/// The frame of document 01: a square of four corners in two triangles.
+/// A square of four corners in two triangles.
 const X: [f32; 4] = [0.0, 10.0, 10.0, 0.0];
 const Y: [f32; 4] = [0.0, 0.0, 10.0, 10.0];
 const TRIANGLES: [u32; 6] = [0, 1, 2, 0, 2, 3];
@@ -13,7 +14,7 @@ const CORNERS: Positions = Positions { x: &X, y: &Y };
 const REST: u32 = 77;
 
 #[test]
-fn numbers_of_document_01() {
+fn numbers_of_the_paper() {
     for (x, bits) in [(2.0, 0x3FB504F3), (100.0, 10f32.to_bits()), (f32::from_bits(1), 0x1A3504F3)] {
         assert_eq!(root(x).map(f32::to_bits), Ok(bits));
     }
@@ -22,6 +23,7 @@ fn numbers_of_document_01() {
     }
     assert_eq!(axis_distance(1.0, 0.75), Some(0.25));
     assert_eq!(axis_distance(f32::INFINITY, 0.0), None);
+    assert!(float_settings_hold());
 }
 
 #[test]
@@ -77,7 +79,7 @@ fn labelled(quads: &[Quad], params: LabelParams) -> (Vec<Component>, Vec<Entry>)
 }
 
 #[test]
-fn labels_of_document_01() {
+fn labels_of_the_paper() {
     let any = LabelParams { quads: 1, corners: 1 };
     let (_, entries) = labelled(&[[0, 1, 2, 3], [1, 4, 5, 2]], any);
     assert!(entries.contains(&Entry { u: 2, v: 0, corner: 4 }) && entries.contains(&Entry { u: 2, v: 1, corner: 5 }));

@@ -1,10 +1,11 @@
-// The whole frame in one call: document 01's frame labelled, and rows of its table with what they leave of the lists.
+// The whole frame in one call: the square of the customer's paper (document 01; examples/square) labelled, and rows of the refusal table
+// with what they leave of the lists.
 
 use ngeunsadok::*;
 
 const UP: f32 = std::f32::consts::FRAC_PI_2;
 
-/// The frame of document 01: a square of four corners in two triangles, axes along its sides, no spreads.
+/// A square of four corners in two triangles, axes along its sides, no spreads.
 const SQUARE: Frame = Frame {
     corners: Positions { x: &[0.0, 10.0, 10.0, 0.0], y: &[0.0, 0.0, 10.0, 10.0] },
     axes: Axes { angles: &[0.0, UP, 0.0, UP, 0.0, UP, 0.0, UP], marks: &[0; 8], spreads: &[0.0; 8] },
@@ -33,13 +34,14 @@ fn labelled(frame: Frame, params: Params, rooms: [usize; 3]) -> (Result<Counts, 
 /// The call refuses by that row at that place, writes no list, and leaves the whole workspace filled with that word.
 fn refused(frame: Frame, params: Params, rooms: [usize; 3], number: u32, place: u32, left: u32) {
     let (answer, work, components, entries) = labelled(frame, params, rooms);
-    assert_eq!(answer, Err(Refusal { number, place }));
+    let refusal = answer.expect_err("a refusal");
+    assert_eq!((refusal.number(), refusal.place()), (number, place));
     assert_eq!(work, vec![left; rooms[0]]);
     assert_eq!((components, entries), (vec![NO_COMPONENT; rooms[1]], vec![NO_ENTRY; rooms[2]]));
 }
 
 #[test]
-fn the_frame_of_document_01() {
+fn the_square() {
     let entry = |u, v, corner| Entry { u, v, corner };
     let (answer, work, components, entries) = labelled(SQUARE, PARAMS, [frame_work(6, 4) + 3, 2, 5]);
     assert_eq!(answer, Ok(Counts { components: 1, entries: 4 }));
@@ -62,6 +64,41 @@ fn a_frame_without_corners() {
     let axes = Axes { angles: &[], marks: &[], spreads: &[] };
     let nothing = Frame { corners, axes, triangles: &[], twins: &[] };
     assert_eq!(labelled(nothing, PARAMS, [0, 0, 0]).0, Ok(Counts { components: 0, entries: 0 }));
+    assert_eq!(nothing.label(PARAMS), Ok(Labels::default()));
+}
+
+#[test]
+fn the_defaults_are_the_originals() {
+    let Params { edges, filters, labels } = Params::default();
+    assert_eq!([edges.tolerance, edges.limit].map(f32::to_bits), [0x3E860A92, 0x3F19999A]);
+    let filters = [filters.ratio, filters.least, filters.greatest].map(f32::to_bits);
+    assert_eq!(filters, [0x3FC00000, 0x3ECCCCCD, 0x40200000]);
+    assert_eq!([labels.quads, labels.corners], [1, 4]);
+}
+
+#[test]
+fn lists_of_their_own() {
+    let (answer, _, components, entries) = labelled(SQUARE, PARAMS, [160, 1, 4]);
+    assert!(answer.is_ok());
+    let labels = SQUARE.label(PARAMS).expect("no refusal");
+    assert_eq!((&labels.components, &labels.entries), (&components, &entries));
+    assert_eq!(labels.entries_of(&labels.components[0]), entries);
+    let least = Params { labels: LabelParams { quads: 2, corners: 4 }, ..PARAMS };
+    assert_eq!(SQUARE.label(least), Ok(Labels::default()));
+    assert_eq!(Frame { twins: &[], ..SQUARE }.label(PARAMS), Err(Refusal::Lengths));
+    let twins = [NO_TWIN, NO_TWIN, 3, NO_TWIN, NO_TWIN, NO_TWIN];
+    assert_eq!(Frame { twins: &twins, ..SQUARE }.label(PARAMS), Err(Refusal::Twin { half_edge: 2 }));
+}
+
+/// A list over its limit is refused for that, and not for the workspace that is made for it.
+#[test]
+fn lists_of_their_own_over_the_limits() {
+    let many = vec![0; 6 * 24_576];
+    assert_eq!(Frame { triangles: &many, twins: &many, ..SQUARE }.label(PARAMS), Err(Refusal::Limit));
+    let far = vec![0.0; 8_194];
+    let corners = Positions { x: &far[..4_097], y: &far[..4_097] };
+    let axes = Axes { angles: &far, marks: &many[..8_194], spreads: &far };
+    assert_eq!(Frame { corners, axes, ..SQUARE }.label(PARAMS), Err(Refusal::Limit));
 }
 
 #[test]
@@ -86,7 +123,7 @@ fn rows_1_to_7_come_before_the_workspace() {
     refused(Frame { twins: &[NO_TWIN, NO_TWIN, 4, NO_TWIN, 2, NO_TWIN], ..SQUARE }, PARAMS, rooms, 7, 2, REST);
 }
 
-/// The square of document 01 so many times, apart from one another; then triangles 0 1 2 without twins, up to so many in all.
+/// The square so many times, apart from one another; then triangles 0 1 2 without twins, up to so many in all.
 struct Squares {
     x: Vec<f32>,
     y: Vec<f32>,
@@ -123,6 +160,8 @@ fn the_limits_themselves() {
     assert!(work.iter().all(|&word| word == 0));
     assert_eq!(components[1_023], Component { before: 4_092, entries: 4, holes: 0 });
     assert_eq!(entries[4_095], Entry { u: 1, v: 1, corner: 4_094 });
+    let labels = frame.label(PARAMS).expect("no refusal");
+    assert_eq!((labels.components, labels.entries), (components, entries));
     let above = Squares::of(1_024, 8_193);
     refused(Frame { triangles: &above.triangles, twins: &above.twins, ..frame }, PARAMS, [1, 1, 4], 2, 0, REST);
 }

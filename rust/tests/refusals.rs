@@ -1,4 +1,4 @@
-// Each row of document 01's table from a call that gives it: its number, its place, its words, and what it leaves of the lists.
+// Each row of the refusal table from a call that gives it: its number, its place, its words, and what it leaves of the lists.
 
 use ngeunsadok::*;
 
@@ -12,7 +12,7 @@ const REST: u32 = 77;
 /// The refusal is that row at that place, and its words hold these.
 fn refused<T>(answer: Result<T, Refusal>, number: u32, place: u32, words: &str) {
     let refusal = answer.err().expect("a refusal");
-    assert_eq!(refusal, Refusal { number, place });
+    assert_eq!((refusal.number(), refusal.place()), (number, place));
     assert!(refusal.to_string().contains(words), "{refusal}");
 }
 
