@@ -1,5 +1,5 @@
--- The structs that cross the boundary to C: each is an answer in document 01's numbers, field by field. And the parameters, which cross one
--- by one.
+-- The structs that cross the boundary to C: each is an answer in document 01's numbers, field by field; those that no call with twins answers
+-- leave out what stands beside the place. And the parameters, which cross one by one.
 use mathlib.Core.Bool.{cond}
 use mathlib.Core.List.{List}
 use mathlib.Core.Path.{_≡_}
@@ -50,10 +50,10 @@ abbrev pub verdictFrom : InNumbers Unit → Verdict
 verdictFrom t = record { refused = t .refused; place = t .place }
 
 abbrev pub countFrom : InNumbers ℕ → Count
-countFrom t = record { refused = t .refused; place = t .place; count = t .values }
+countFrom t = record { refused = t .refused; place = t .place; beside = t .beside; count = t .values }
 
 abbrev pub countsFrom : InNumbers (ℕ × ℕ) → Counts
-countsFrom t = record { refused = t .refused; place = t .place; components = t .values .0; entries = t .values .1 }
+countsFrom t = record { refused = t .refused; place = t .place; beside = t .beside; components = t .values .0; entries = t .values .1 }
 
 -- what is told of the classes, and the class list after
 pub record ClassesTold : Type 0 where

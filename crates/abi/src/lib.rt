@@ -65,19 +65,23 @@ pub struct Verdict {
     pub place: u32,
 }
 
-// refused is 0 beside a count; else it is the refusal's number, place its place, and count 0.
+// refused is 0 beside a count; else it is the refusal's number, place its place, and count 0. beside is the twin's value where a twin is at
+// fault, else 0.
 #[repr(C)]
 pub struct Count {
     pub refused: u32,
     pub place: u32,
+    pub beside: u32,
     pub count: u32,
 }
 
-// refused is 0 beside the counts; else it is the refusal's number, place its place, and the counts 0.
+// refused is 0 beside the counts; else it is the refusal's number, place its place, and the counts 0. beside is the twin's value where a
+// twin is at fault, else 0.
 #[repr(C)]
 pub struct Counts {
     pub refused: u32,
     pub place: u32,
+    pub beside: u32,
     pub components: u32,
     pub entries: u32,
 }

@@ -102,11 +102,13 @@ pub(crate) fn tell_merged(answer: Merged) -> Count
         Merged::Done(count) => Count {
             refused: 0,
             place: 0,
+            beside: 0,
             count,
         },
         Merged::Refused(why) => Count {
             refused: refusal::number(why),
             place: refusal::place(why),
+            beside: refusal::beside(why),
             count: 0,
         },
     }
@@ -119,11 +121,13 @@ pub(crate) fn tell_filtered(answer: Filtered) -> Count
         Filtered::Done(count) => Count {
             refused: 0,
             place: 0,
+            beside: 0,
             count,
         },
         Filtered::Refused(why) => Count {
             refused: refusal::number(why),
             place: refusal::place(why),
+            beside: refusal::beside(why),
             count: 0,
         },
     }
@@ -136,12 +140,14 @@ pub(crate) fn tell_labelled(answer: Labelled) -> Counts
         Labelled::Done(components, entries) => Counts {
             refused: 0,
             place: 0,
+            beside: 0,
             components,
             entries,
         },
         Labelled::Refused(why) => Counts {
             refused: refusal::number(why),
             place: refusal::place(why),
+            beside: refusal::beside(why),
             components: 0,
             entries: 0,
         },

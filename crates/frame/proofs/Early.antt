@@ -1,37 +1,36 @@
--- Rows 1 to 8 of a frame refuse with numbers below 9. Assumes nothing.
+-- The rows of a frame before the ninth refuse with other numbers than 9 and 10. Assumes nothing.
+use mathlib.Core.Path.{_≡_, refl}
 use mathlib.Core.Bool.{Bool, true, false, cond}
 use mathlib.Core.List.{List}
-use Prim.Native.Nat.{ℕ, _*_, _%_, _<_}
-use lib.Dec.{lit<}
+use Prim.Native.Nat.{ℕ, _*_, _%_}
 use lib.Ieee.{Float, isNan}
 use lib.ListN.{length, getD}
 use Rattle.refusal.specs.declared.Refusal.the-variants.{ParameterNan, OutOfRange, TwinPastEnd, TwinNotBack, TwinElsewhere}
-use Rattle.refusal.specs.Table.{numberOf}
 use Rattle.measure.specs.Parameter.{parameterRow}
 use Rattle.mesh.specs.Lists.{mostCorners, mostHalfEdges, frameWords}
 use Rattle.mesh.specs.Positions.{misplaced, positionsRow}
 use Rattle.mesh.specs.Twins.{pastEnd, pointsBack, twinOffends, twinFault, twinsRow}
-use Rattle.walk.proofs.Early.{Early, early-if, early-first, early-then, early-paired, early-limit, early-corners, early-twice, early-work}
+use Rattle.walk.proofs.Early.{ofRoom, Early, early-if, early-first, early-then, early-paired, early-limit, early-corners, early-twice, early-work}
 use Rattle.frame.specs.declared.Params.{Params}
 use Rattle.frame.specs.Stages.{Input}
 use Rattle.frame.specs.Call.{lengthsGate, paramsGate, valuesGate, judgeOf, entryGate}
 
 early-parameter : (parameter : Float) (number : ℕ) → Early (parameterRow parameter number)
-early-parameter parameter number = early-if (isNan parameter) (ParameterNan number) (lit< tt)
+early-parameter parameter number = early-if (isNan parameter) (ParameterNan number) refl
 
 early-positions : (xs ys : List Float) → Early (positionsRow xs ys)
 unfolding positionsRow
-early-positions xs ys = early-first (misplaced xs ys) (length xs) OutOfRange (λ k. lit< tt)
+early-positions xs ys = early-first (misplaced xs ys) (length xs) OutOfRange (λ k. refl)
 
 -- whichever of the three faults
-fault-number : (past back : Bool) (e w : ℕ) → numberOf (cond past (TwinPastEnd e w) (cond back (TwinElsewhere e w) (TwinNotBack e w))) < 9
-fault-number true back e w = lit< tt
-fault-number false true e w = lit< tt
-fault-number false false e w = lit< tt
+fault-early : (past back : Bool) (e w : ℕ) → ofRoom (cond past (TwinPastEnd e w) (cond back (TwinElsewhere e w) (TwinNotBack e w))) ≡ false
+fault-early true back e w = refl
+fault-early false true e w = refl
+fault-early false false e w = refl
 
 early-twins : (triangles twins : List ℕ) → Early (twinsRow triangles twins)
 unfolding twinsRow twinFault
-early-twins triangles twins = early-first (twinOffends triangles twins) (length twins) (twinFault twins) (λ e. fault-number (pastEnd twins (getD twins e 0)) (pointsBack twins e (getD twins e 0)) e (getD twins e 0))
+early-twins triangles twins = early-first (twinOffends triangles twins) (length twins) (twinFault twins) (λ e. fault-early (pastEnd twins (getD twins e 0)) (pointsBack twins e (getD twins e 0)) e (getD twins e 0))
 
 early-lengths : (x y angles marks spreads triangles twins : ℕ) → Early (lengthsGate x y angles marks spreads triangles twins)
 unfolding lengthsGate

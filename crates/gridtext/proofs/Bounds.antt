@@ -1,11 +1,9 @@
 -- How long a text can be: a word takes ten digits at most, and each line has so many of them. Assumes nothing.
-use mathlib.Core.Path.{ap}
+use mathlib.Core.Path.{_≡_, ap}
 use mathlib.Core.List.{List, [], _∷_, _++_}
 use Prim.Native.Nat.{ℕ, zero, suc, _+_, _*_, _≤_, _<_}
 use native.Mathlib.Omega.{arith}
 use lib.ListN.{length, getD, length-append}
-use Rattle.refusal.specs.declared.Refusal.{Refusal}
-use Rattle.refusal.specs.Table.{numberOf, placeOf}
 use Rattle.cells.specs.Listed.{Entry}
 use Rattle.cells.specs.Sums.{total}
 use Rattle.walk.specs.Call.{allEntries}
@@ -14,8 +12,8 @@ use Rattle.walk.proofs.ReadBack.{entries-in-all}
 use Rattle.digits.specs.Digits.{decimalOf}
 use Rattle.digits.proofs.Places.{places, fewest, word-places, decimal-places}
 use Rattle.gridtext.specs.Lines.{spaced, IsWord}
-use Rattle.gridtext.specs.Answer.{numbersLine, badText, refusedText, entryLine, entryLines, componentsText}
-use Rattle.gridtext.specs.inner.Printed.{Room, lastFields}
+use Rattle.gridtext.specs.Answer.{numbersLine, badText, entryLine, entryLines, componentsText}
+use Rattle.gridtext.specs.inner.Printed.{Printed, Room, lastFields}
 use Rattle.gridtext.specs.inner.Held.{badBytes, refusedBytes, Holds, Printable, Readable, mostBytes}
 use Rattle.gridtext.proofs.Joining.{joined, entryPiece, entries-joined, componentPiece}
 use Rattle.gridtext.proofs.Reading.{readable, componentWord, componentFields, component-parts, countWord, answer-parts}
@@ -48,10 +46,12 @@ pub bad-room : (out : List ℕ) (line : ℕ) → IsWord line → badBytes ≤ le
 unfolding badText numbersLine
 bad-room out line h r = omega (arith, one-most line h, length-append (98 ∷ 97 ∷ 100 ∷ []) (lastFields (decimalOf line ∷ [])))
 
-pub refused-room : (out : List ℕ) (why : Refusal) → IsWord (numberOf why) → IsWord (placeOf why) → refusedBytes ≤ length out → Room out 0 (refusedText why)
-unfolding refusedText numbersLine
-refused-room out why h i r =
-    omega (arith, two-most (numberOf why) (placeOf why) h i, length-append (114 ∷ 101 ∷ 102 ∷ 117 ∷ 115 ∷ 101 ∷ 100 ∷ []) (lastFields (decimalOf (numberOf why) ∷ decimalOf (placeOf why) ∷ [])))
+-- after a word of seven letters: two numbers, or three
+pub two-after : {before out word : List ℕ} {at : ℕ} (a b : ℕ) → Printed before out 0 word at → length word ≡ 7 → IsWord a → IsWord b → refusedBytes ≤ length before → Room out at (lastFields (decimalOf a ∷ decimalOf b ∷ []))
+two-after a b p e h i r = omega (arith, two-most a b h i, p .ends, p .len)
+
+pub three-after : {before out word : List ℕ} {at : ℕ} (a b c : ℕ) → Printed before out 0 word at → length word ≡ 7 → IsWord a → IsWord b → IsWord c → refusedBytes ≤ length before → Room out at (lastFields (decimalOf a ∷ decimalOf b ∷ decimalOf c ∷ []))
+three-after a b c p e h i j r = omega (arith, three-most a b c h i j, p .ends, p .len)
 
 -- ---- the answer
 

@@ -1,10 +1,11 @@
 -- Document 01's text has document 01's answer, by the definitions: its lines are read as its frame, which the rows let through, and whose
--- one component is printed byte by byte. Assumes nothing.
+-- one component is printed byte by byte; and lines of refusals, with a twin and without. Assumes nothing.
 use mathlib.Core.Path.{_≡_, refl, subst}
 use mathlib.Core.List.{List, [], _∷_, _++_, flatMap}
 use Prim.Native.Nat.{ℕ}
 use lib.Ieee.{ofBits, round, le, isNan}
 use Rattle.refusal.specs.declared.Gate.the-variants.{Open}
+use Rattle.refusal.specs.declared.Refusal.the-variants.{OutOfRange, TwinNotBack, TwinElsewhere}
 use Rattle.refusal.specs.First.{firstOf}
 use Rattle.refusal.specs.Rows.{refuseFirst}
 use Rattle.measure.specs.Float.{within}
@@ -21,7 +22,7 @@ use Rattle.frame.proofs.Examples.{of-the-frame}
 use Rattle.gridtext.specs.Lines.{spaced}
 use Rattle.gridtext.specs.Lists.{twinWord, wordOf, markOf, paramsOf, inputOf}
 use Rattle.gridtext.specs.Text.{Frame}
-use Rattle.gridtext.specs.Answer.{numbersLine, entryLine, entryLines, componentLines, componentsText}
+use Rattle.gridtext.specs.Answer.{numbersLine, refusedText, entryLine, entryLines, componentLines, componentsText}
 use Rattle.gridtext.specs.Gridlabel.{Answers}
 use Rattle.gridtext.proofs.Example.{lastFed, cornerAt, firstTriangle, secondTriangle, frameWith, document-text}
 
@@ -48,3 +49,18 @@ text-is = refl
 
 pub document-answer : Answers (lastFed (10 ∷ [])) documentAnswer
 document-answer = subst (Answers (lastFed (10 ∷ []))) text-is (Answers.labelled frame document-text (rw lists-are let-through) (printed ∷ []) (rw lists-are of-the-frame))
+
+-- "refused 11 5 2"
+pub not-back : refusedText (TwinNotBack 5 2) ≡ 114 ∷ 101 ∷ 102 ∷ 117 ∷ 115 ∷ 101 ∷ 100 ∷ 32 ∷ 49 ∷ 49 ∷ 32 ∷ 53 ∷ 32 ∷ 50 ∷ 10 ∷ []
+unfolding refusedText numbersLine spaced decimalOf placesIn
+not-back = refl
+
+-- "refused 12 0 0": a twin 0 is printed
+pub own-twin : refusedText (TwinElsewhere 0 0) ≡ 114 ∷ 101 ∷ 102 ∷ 117 ∷ 115 ∷ 101 ∷ 100 ∷ 32 ∷ 49 ∷ 50 ∷ 32 ∷ 48 ∷ 32 ∷ 48 ∷ 10 ∷ []
+unfolding refusedText numbersLine spaced decimalOf placesIn
+own-twin = refl
+
+-- "refused 4 0": no twin
+pub out-of-range : refusedText (OutOfRange 0) ≡ 114 ∷ 101 ∷ 102 ∷ 117 ∷ 115 ∷ 101 ∷ 100 ∷ 32 ∷ 52 ∷ 32 ∷ 48 ∷ 10 ∷ []
+unfolding refusedText numbersLine spaced decimalOf placesIn
+out-of-range = refl

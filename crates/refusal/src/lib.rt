@@ -1,7 +1,7 @@
-// The rows of document 01's refusal table as one enum, with the number and the place that the table gives each.
-// A call that refuses answers one of these; callers print, count and compare the number and the place.
+// The rows of the refusal table as one enum, with the number and the place that the table gives each, and what stands beside the place.
+// A call that refuses answers one of these; callers print, count and compare these numbers.
 ghost use mathlib.Core.Path.{_≡_};
-ghost use Rattle.refusal.specs.Table.{numberOf, placeOf};
+ghost use Rattle.refusal.specs.Table.{numberOf, placeOf, besideOf, hasBeside};
 
 pub mod inner;
 
@@ -41,8 +41,8 @@ pub fn number(refusal: Refusal) -> u32
         Refusal::NoSuchClass(_) => 5,
         Refusal::CornerTwice(_) => 6,
         Refusal::TwinPastEnd(_, _) => 7,
-        Refusal::TwinNotBack(_, _) => 7,
-        Refusal::TwinElsewhere(_, _) => 7,
+        Refusal::TwinNotBack(_, _) => 11,
+        Refusal::TwinElsewhere(_, _) => 12,
         Refusal::WorkspaceShort(_) => 8,
         Refusal::RecordsShort(_) => 9,
         Refusal::EntriesShort(_) => 10,
@@ -68,4 +68,38 @@ pub fn place(refusal: Refusal) -> u32
         Refusal::RecordsShort(records) => records,
         Refusal::EntriesShort(entries) => entries,
     }
+}
+
+// What stands beside the place: the twin's own value, or 0.
+pub fn beside(refusal: Refusal) -> u32
+    ensures { λ r. ⌜ r ≡ besideOf refusal ⌝ }
+{
+    match refusal {
+        Refusal::Unpaired => 0,
+        Refusal::OverLimit => 0,
+        Refusal::ParameterNan(_) => 0,
+        Refusal::OutOfRange(_) => 0,
+        Refusal::NoSuchCorner(_) => 0,
+        Refusal::NoSuchClass(_) => 0,
+        Refusal::CornerTwice(_) => 0,
+        Refusal::TwinPastEnd(_, twin) => twin,
+        Refusal::TwinNotBack(_, twin) => twin,
+        Refusal::TwinElsewhere(_, twin) => twin,
+        Refusal::WorkspaceShort(_) => 0,
+        Refusal::RecordsShort(_) => 0,
+        Refusal::EntriesShort(_) => 0,
+    }
+}
+
+// Whether the row with this number has a value beside its place.
+pub fn has_beside(number: u32) -> bool
+    ensures { λ r. ⌜ r ≡ hasBeside number ⌝ }
+{
+    if number == 7 {
+        return true;
+    }
+    if number == 11 {
+        return true;
+    }
+    number == 12
 }

@@ -5,7 +5,7 @@ use measure::Measured;
 use measure::inner::float_of;
 use measure::inner::word_of;
 use vectors::hex;
-use vectors::refusal_line;
+use vectors::inner::runs::write_refusal;
 use vectors::word_at;
 
 fn write_number(x: f32) {
@@ -18,8 +18,7 @@ fn write_measured(answer: Measured) {
     match answer {
         Measured::Known(x) => write_number(x),
         Measured::Refused(why) => {
-            let line = refusal_line(why);
-            io::write_all(1, &line);
+            write_refusal(why);
         }
     }
 }

@@ -1,16 +1,34 @@
--- The lines' counts: a number's line is as long as its digits and the bytes round them, a run that is told adds one to the runs.
--- Assumes nothing.
+-- The lines' counts: a refusal's line is as long as its parts, a number's as its digits and the bytes round them, a run that is told adds
+-- one to the runs. Assumes nothing.
+use mathlib.Core.Bool.{Bool, true, false, cond}
 use mathlib.Core.Path.{_≡_, refl, sym, ap, _∙_, subst}
-use mathlib.Core.List.{List}
+use mathlib.Core.List.{List, [], _∷_}
 use Prim.Native.Nat.{ℕ, zero, suc, _+_, _-_, _≤_, _<_}
 use native.Mathlib.Decide.{ℕ-discrete}
 use native.Mathlib.Omega.{arith}
 use borrow.Author.Tests.{eq-eqb, ne-eqb}
 use lib.ListN.{length, getD, length-append}
 use Rattle.io.specs.Digits.{Fewest}
-use Rattle.digits.specs.Digits.{decimalOf}
+use Rattle.refusal.specs.declared.Refusal.{Refusal}
+use Rattle.refusal.specs.Table.{numberOf, besideOf, hasBeside}
+use Rattle.digits.specs.Digits.{decimalOf, hexOf}
 use Rattle.digits.proofs.Places.{places, fewest, one-fewest, word-places}
+use Rattle.vectors.specs.Hex.{refusalFront, besideField, refusalLine}
 use Rattle.vectors.specs.inner.Lines.{countLine, countsLine, beginsAt, runsTo, runsOf, Run}
+
+-- ---- a refusal
+
+pub beside-none : (why : Refusal) → hasBeside (numberOf why) ≡ false → 0 ≡ length (besideField why)
+beside-none why e = ap (λ (has : Bool). length (cond has (32 ∷ hexOf (besideOf why)) [])) (sym e)
+
+pub beside-some : (why : Refusal) → hasBeside (numberOf why) ≡ true → 8 ≡ length (hexOf (besideOf why)) → 9 ≡ length (besideField why)
+beside-some why e h = ap suc h ∙ ap (λ (has : Bool). length (cond has (32 ∷ hexOf (besideOf why)) [])) (sym e)
+
+pub refusal-length : (why : Refusal) {j k : ℕ} → j ≡ length (refusalFront why) → k ≡ length (besideField why) → j + k + 1 ≡ length (refusalLine why)
+unfolding refusalLine
+refusal-length why e f = simp length-append (omega (arith, e, f))
+
+-- ---- numbers
 
 -- a word takes ten digits at most
 pub few-places : (n k : ℕ) → n < 4294967296 → Fewest 10 1 n k → k ≤ 10
@@ -23,6 +41,8 @@ count-length count e = simp length-append (omega (arith, e))
 pub counts-length : (first second : ℕ) {j k : ℕ} → j ≡ length (decimalOf first) → k ≡ length (decimalOf second) → j + k + 7 ≡ length (countsLine first second)
 unfolding countsLine
 counts-length first second e f = simp length-append (omega (arith, e, f))
+
+-- ---- runs
 
 -- at a place after the first, the same word as before begins no run, and another does
 begins-same : (list : List ℕ) (k : ℕ) → getD list (suc k) 0 ≡ getD list k 0 → beginsAt list (suc k) ≡ 0

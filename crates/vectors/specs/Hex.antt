@@ -5,7 +5,7 @@ use Prim.Native.Nat.{ℕ, _+_, _*_, _-_}
 use lib.Dec.{leb, ltb}
 use lib.ListN.{length, getD}
 use Rattle.refusal.specs.declared.Refusal.{Refusal}
-use Rattle.refusal.specs.Table.{numberOf, placeOf}
+use Rattle.refusal.specs.Table.{numberOf, placeOf, besideOf, hasBeside}
 use Rattle.digits.specs.Digits.{hexOf}
 
 -- the value of a digit; any other byte counts as 0
@@ -24,6 +24,13 @@ unfoldable pub wordAt : List ℕ → ℕ → ℕ
 wordAt text at = cond (leb (at + 8) (length text)) (fourAt text at * 65536 + fourAt text (at + 4)) 0
 
 -- "refused", the row and the place
+unfoldable pub refusalFront : Refusal → List ℕ
+refusalFront why =
+    114 ∷ 101 ∷ 102 ∷ 117 ∷ 115 ∷ 101 ∷ 100 ∷ 32 ∷ (hexOf (numberOf why) ++ (32 ∷ hexOf (placeOf why)))
+
+-- what stands beside the place, where the row has that
+abbrev pub besideField : Refusal → List ℕ
+besideField why = cond (hasBeside (numberOf why)) (32 ∷ hexOf (besideOf why)) []
+
 unfoldable pub refusalLine : Refusal → List ℕ
-refusalLine why =
-    114 ∷ 101 ∷ 102 ∷ 117 ∷ 115 ∷ 101 ∷ 100 ∷ 32 ∷ (hexOf (numberOf why) ++ (32 ∷ (hexOf (placeOf why) ++ (10 ∷ []))))
+refusalLine why = refusalFront why ++ (besideField why ++ (10 ∷ []))

@@ -1,10 +1,10 @@
-// What the programs that replay outside vectors share: words as eight upper-case hex digits, and the line that tells a refusal.
-// `inner` reads their files.
+// What the programs that replay outside vectors share: words as eight upper-case hex digits, and how the line that tells a refusal begins.
+// `inner` reads their files and writes their lines.
 ghost use mathlib.Core.Path.{_≡_};
 ghost use Prim.Native.Nat.{_+_, _<_, _≤_};
 ghost use lib.ListN.{length};
 ghost use Rattle.digits.specs.Digits.{digitOf, hexOf};
-ghost use Rattle.vectors.specs.Hex.{valueOf, fourAt, wordAt, refusalLine};
+ghost use Rattle.vectors.specs.Hex.{valueOf, fourAt, wordAt, refusalFront};
 use refusal::Refusal;
 
 pub mod inner;
@@ -76,9 +76,9 @@ pub fn hex(word: u32) -> [u8; 8]
     ]
 }
 
-// The line that tells a refusal: its row and its place, each as eight digits.
-pub fn refusal_line(why: Refusal) -> [u8; 26]
-    ensures { λ r. ⌜ (r ≡ refusalLine why) × (26 ≡ length r) ⌝ }
+// The line that tells a refusal, up to what stands beside the place: its row and its place, each as eight digits.
+pub fn refusal_front(why: Refusal) -> [u8; 25]
+    ensures { λ r. ⌜ (r ≡ refusalFront why) × (25 ≡ length r) ⌝ }
 {
     let row = hex(refusal::number(why));
     let place = hex(refusal::place(why));
@@ -108,6 +108,5 @@ pub fn refusal_line(why: Refusal) -> [u8; 26]
         place[5],
         place[6],
         place[7],
-        b'\n',
     ]
 }

@@ -33,7 +33,7 @@ fn short(quads: &[u32], corners: usize, work: &[u32]) -> Option<usize> {
 fn room(list: &[u32], words: &[u32], size: usize, row: u32) -> Result<usize, Refusal> {
     let wanted = words.len() / size;
     if list.len() / size < wanted {
-        return Err(Refusal { row, place: wanted as u32 });
+        return Err(Refusal::at(row, wanted as u32));
     }
     Ok(wanted)
 }
@@ -46,7 +46,7 @@ pub fn records(words: &[u32]) -> Vec<[u32; 4]> {
 /// The axis cache of a frame's only corner.
 pub fn axis_cache(frame: &Frame) -> Result<AxisPair, Refusal> {
     if frame.params.spread_limit.is_nan() {
-        return Err(Refusal { row: 3, place: 4 });
+        return Err(Refusal::at(3, 4));
     }
     Ok(ruled::axes(frame)[0])
 }
@@ -105,16 +105,15 @@ fn missing_corner_or_class(frame: &Frame, classes: &[u32]) -> Option<usize> {
 
 /// The quads call: gives the number of quads. The frame's axes are no part of it.
 pub fn quads(frame: &Frame, classes: &[u32], list: &mut [u32]) -> Result<usize, Refusal> {
-    let rows: [&dyn Fn() -> Option<usize>; 7] = [
+    let rows: [&dyn Fn() -> Option<usize>; 6] = [
         &|| unpaired_quads(frame, classes),
         &|| counts(frame),
         &|| None,
         &|| positions(frame),
         &|| missing_corner_or_class(frame, classes),
         &|| repeated_corner(&frame.triangles, 3),
-        &|| twins(frame),
     ];
-    if let Some(refusal) = first_of(&rows) {
+    if let Some(refusal) = first_of(&rows).or_else(|| twins(frame)) {
         return Err(refusal);
     }
     let quads = ruled::quads(frame, classes).concat();

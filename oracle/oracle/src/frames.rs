@@ -1,18 +1,18 @@
-// Frames for long comparisons of the whole call. `drawn(seed, i)` is frame number i of a run with
-// the lists it lends; `expected(&case)` is what the call must tell and leave, the stages between,
-// and the unchanged Rust's answer with whether document 01 owes equality with it.
+// Frames for long comparisons of the whole call: `drawn(seed, i)` is frame number i of a run with the
+// lists it lends, `full_twins()` are some full ones; `expected(&case)` is what the call must tell and leave,
+// the stages between, and the unchanged Rust's answer with whether document 01 owes equality with it.
 
 use std::collections::HashSet;
 
 use crate::calls::{answer_frame, judge_frame};
 use crate::compare::frame_of;
 use crate::generate::{damage::damage, torus, KINDS};
-use crate::judge::{judge, MOST_CORNERS};
+use crate::judge::{judge, Refusal, MOST_CORNERS, MOST_HALF_EDGES};
 use crate::near::{scope, Scope};
 use crate::random::Random;
 use crate::told::Told;
 use crate::vectors::frames::{lend, Case};
-use frame::{Component, Frame, Stages};
+use frame::{Component, Frame, Stages, NONE};
 
 /// A frame of a run, with the name of its kind, "damaged" among them.
 #[derive(Clone, Debug)]
@@ -21,7 +21,7 @@ pub struct Drawn {
     pub case: Case,
 }
 
-/// The stages of a frame that rows 1 to 7 let pass, as words of lists.
+/// The stages of a frame that the rows before 8 let pass, as words of lists.
 #[derive(Clone, Debug, PartialEq, Eq)]
 pub struct Between {
     /// A class for each half-edge.
@@ -40,7 +40,7 @@ pub struct Unchanged {
     pub scope: Scope,
 }
 
-/// All that is expected of a case. The stages are those of frames that rows 1 to 7 let pass,
+/// All that is expected of a case. The stages are those of frames that the rows before 8 let pass,
 /// whatever the lists that are lent.
 #[derive(Clone, Debug)]
 pub struct Expected {
@@ -82,6 +82,36 @@ pub fn drawn(seed: u64, number: usize) -> Drawn {
         (KINDS.get(place).map_or("damaged", |kind| kind.0), frame)
     };
     Drawn { kind, case: lend(frame, &mut random) }
+}
+
+/// The last half-edge that there may be.
+const LAST: u32 = MOST_HALF_EDGES as u32 - 1;
+
+/// Twins of a full frame: half-edge, twin, and the row that refuses it.
+const FULL_TWINS: [[u32; 3]; 8] = [
+    [0, LAST, 11],
+    [0, LAST + 1, 7],
+    [0, NONE - 1, 7],
+    [LAST, 0, 11],
+    [LAST, LAST - 1, 11],
+    [LAST, LAST, 12],
+    [LAST, LAST + 1, 7],
+    [LAST, NONE - 1, 7],
+];
+
+/// A closed grid with as many corners and half-edges as there may be, of which the last is a twin;
+/// then the same with another twin of its first or last half-edge, whose own twin has none instead.
+/// Each with what the rows before 8 say of it.
+pub fn full_twins() -> Vec<(Case, Option<Refusal>)> {
+    let sound = torus(MOST_CORNERS, &mut Random::new(0));
+    let with = |[place, beside, row]: [u32; 3]| {
+        let mut frame = sound.clone();
+        let old = std::mem::replace(&mut frame.twins[place as usize], beside);
+        frame.twins[old as usize] = NONE;
+        (Case::of(frame), Some(Refusal { row, place, beside }))
+    };
+    let refused = FULL_TWINS.map(with);
+    [(Case::of(sound), None)].into_iter().chain(refused).collect()
 }
 
 /// Equal quads meet the same fate, so that a quad is kept where its words are.

@@ -1,12 +1,31 @@
-// Document 01's refusals 1 to 7 of a whole frame, in the table's order, each at its first offender.
+// The refusals of a whole frame that come before row 8, by documents 01 and 02, in the table's order,
+// each at its first offender.
 
 use frame::{Frame, NONE};
 
-/// A row of the table and its place.
+/// The rows of twins, in the order in which they are tried at a half-edge.
+pub const TWIN_ROWS: [u32; 3] = [7, 11, 12];
+
+/// A row of the table and its place; beside it the twin's own value for the rows of twins, 0 for
+/// every other.
 #[derive(Clone, Copy, Debug, PartialEq, Eq)]
 pub struct Refusal {
     pub row: u32,
     pub place: u32,
+    pub beside: u32,
+}
+
+impl Refusal {
+    /// The refusal of a row that is not one of twins.
+    pub fn at(row: u32, place: u32) -> Refusal {
+        Refusal { row, place, beside: 0 }
+    }
+
+    /// The numbers that are printed: row, place and, for the rows of twins alone, the twin's value.
+    pub fn fields(&self) -> impl Iterator<Item = u32> {
+        let beside = TWIN_ROWS.contains(&self.row).then_some(self.beside);
+        [self.row, self.place].into_iter().chain(beside)
+    }
 }
 
 pub const MOST_CORNERS: usize = 4_096;
@@ -53,35 +72,42 @@ pub fn repeated_corner(list: &[u32], size: usize) -> Option<usize> {
     list.chunks(size).position(|record| (1..record.len()).any(|i| record[..i].contains(&record[i])))
 }
 
-fn bad_twin(frame: &Frame, e: usize) -> bool {
+/// The first of the rows of twins that refuses a half-edge's twin.
+fn twin_row(frame: &Frame, e: usize) -> Option<u32> {
     let twin = frame.twins[e];
     if twin == NONE {
-        return false;
+        return None;
     }
     let twin = twin as usize;
-    if twin >= frame.half_edges() || frame.twins[twin] as usize != e {
-        return true;
+    if twin >= frame.half_edges() {
+        return Some(7);
+    }
+    if frame.twins[twin] as usize != e {
+        return Some(11);
     }
     let (from, to) = frame.ends(e);
-    frame.ends(twin) != (to, from)
+    (frame.ends(twin) != (to, from)).then_some(12)
 }
 
-pub(crate) fn twins(frame: &Frame) -> Option<usize> {
-    (0..frame.half_edges()).find(|&e| bad_twin(frame, e))
+/// The rows of twins, at the first half-edge that one of them refuses.
+pub(crate) fn twins(frame: &Frame) -> Option<Refusal> {
+    (0..frame.half_edges()).find_map(|e| {
+        let row = twin_row(frame, e)?;
+        Some(Refusal { row, place: e as u32, beside: frame.twins[e] })
+    })
 }
 
 /// The refusal of a frame, or None where it is accepted.
 pub fn judge(frame: &Frame) -> Option<Refusal> {
-    let rows: [&dyn Fn() -> Option<usize>; 7] = [
+    let rows: [&dyn Fn() -> Option<usize>; 6] = [
         &|| lengths(frame),
         &|| counts(frame),
         &|| parameters(frame),
         &|| positions(frame),
         &|| missing_corner(&frame.triangles, frame.corners()),
         &|| repeated_corner(&frame.triangles, 3),
-        &|| twins(frame),
     ];
-    first_of(&rows)
+    first_of(&rows).or_else(|| twins(frame))
 }
 
 /// Row 1 of a quad list.
@@ -111,6 +137,6 @@ pub fn judge_quads(quads: &[u32], corners: usize) -> Option<Refusal> {
 pub(crate) fn first_of(rows: &[&dyn Fn() -> Option<usize>]) -> Option<Refusal> {
     rows.iter().zip(1..).find_map(|(row, number)| {
         let place = row()? as u32;
-        Some(Refusal { row: number, place })
+        Some(Refusal::at(number, place))
     })
 }

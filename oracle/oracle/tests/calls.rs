@@ -25,7 +25,7 @@ fn classes_of(frame: &Frame) -> Vec<u32> {
 const QUAD: [u32; 6] = [1, 1, 2, 2, 1, 1];
 
 fn refused<T>(row: u32, place: u32) -> Result<T, Refusal> {
-    Err(Refusal { row, place })
+    Err(Refusal::at(row, place))
 }
 
 #[test]
@@ -97,6 +97,20 @@ fn corners_before_classes() {
     frame.triangles[5] = 4;
     assert_eq!(quads(&frame, &[1, 3, 1, 1, 9, 1], &mut []), refused(5, 5));
     assert_eq!(classes(&frame, &mut [3; 6]), refused(5, 5));
+}
+
+#[test]
+fn which_twin_fault() {
+    let twins = |words: [u32; 6]| {
+        let frame = Frame { twins: words.to_vec(), ..square() };
+        let mut list = [7; 4];
+        let result = quads(&frame, &QUAD, &mut list);
+        assert_eq!(list, [7; 4]);
+        result.map_err(|refusal| [refusal.row, refusal.place, refusal.beside])
+    };
+    assert_eq!(twins([NONE, NONE, 6, 2, NONE, NONE]), Err([7, 2, 6]));
+    assert_eq!(twins([NONE, NONE, 3, 2, NONE, 0]), Err([11, 5, 0]));
+    assert_eq!(twins([NONE, 5, 3, 2, NONE, 1]), Err([12, 1, 5]));
 }
 
 #[test]

@@ -5,6 +5,8 @@ use frame::{Frame, Stages};
 use oracle::command::status;
 use oracle::compare::{compare, Sides, SIDES};
 use oracle::judge::{judge, Refusal};
+use oracle::stages::Build;
+use oracle::text::answer;
 use oracle::words;
 use std::process::{Command, Output, Stdio};
 
@@ -26,10 +28,15 @@ fn other_place(frame: &Frame) -> Option<Refusal> {
     judge(frame).map(|refusal| Refusal { place: refusal.place + 1, ..refusal })
 }
 
+fn nothing_beside(frame: &Frame) -> Option<Refusal> {
+    judge(frame).map(|refusal| Refusal { beside: 0, ..refusal })
+}
+
 #[test]
 fn a_wrong_side_is_told() {
     let wrong = [
         Sides { judge: other_place, ..SIDES },
+        Sides { judge: nothing_beside, ..SIDES },
         Sides { plain: |frame| spoiled(plain::run(frame)), ..SIDES },
         Sides { ruled: |frame| spoiled(ruled::run(frame)), ..SIDES },
         Sides { words: |frame| spoiled(words::run(frame)), ..SIDES },
@@ -53,6 +60,18 @@ fn words_that_are_read() {
 }
 
 #[test]
+fn frames_that_a_row_refuses() {
+    for row in [3, 4, 5, 6, 7, 11, 12] {
+        for seed in 0..5 {
+            let said = oracle(&format!("frames row{row} {seed} 1")).stdout;
+            let heading = format!("# row{row}-{seed}-0\n");
+            let text = said.strip_prefix(heading.as_bytes()).unwrap();
+            assert!(answer(text, Build::Ruled).starts_with(&format!("refused {row} ")));
+        }
+    }
+}
+
+#[test]
 fn no_word_is_refused_with_the_list() {
     let (none, help) = (oracle(""), oracle("help"));
     assert_eq!((none.status.code(), none.stdout.len()), (Some(2), 0));
@@ -60,7 +79,7 @@ fn no_word_is_refused_with_the_list() {
 }
 
 /// Counts and seeds that are none, words that nothing is called, words missing and too many.
-const REFUSED: [&str; 28] = [
+const REFUSED: [&str; 29] = [
     "compare 1e6 1",
     "compare 1,000 1",
     "compare -1 1",
@@ -79,6 +98,7 @@ const REFUSED: [&str; 28] = [
     "frames perfect 1 1e2",
     "frames perfect 1",
     "frames nothing 1 1",
+    "frames row8 1 1",
     "label 1 x",
     "label 1 1 4096 1",
     "quads sheet 1 1",

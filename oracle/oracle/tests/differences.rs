@@ -25,7 +25,7 @@ fn found(frame: &Frame) -> Option<usize> {
 }
 
 fn refused(row: u32, place: u32) -> Option<Refusal> {
-    Some(Refusal { row, place })
+    Some(Refusal::at(row, place))
 }
 
 #[test]
@@ -34,14 +34,19 @@ fn what_the_rust_answers_and_the_table_refuses() {
     nan_tolerance.params.tolerance = f32::NAN;
     let mut nan_position = frame(1, &[]);
     nan_position.x[0] = f32::NAN;
-    let mut wrong_twin = frame(3, &[0, 1, 2]);
-    wrong_twin.twins[0] = 3;
+    let with_twin = |twin: u32| {
+        let mut wrong = frame(3, &[0, 1, 2]);
+        wrong.twins[0] = twin;
+        wrong
+    };
     let answered = [
         (frame(4_097, &[]), refused(2, 0)),
         (nan_tolerance, refused(3, 0)),
         (nan_position, refused(4, 0)),
         (frame(1, &[0, 0, 0]), refused(6, 0)),
-        (wrong_twin, refused(7, 0)),
+        (with_twin(3), Some(Refusal { row: 7, place: 0, beside: 3 })),
+        (with_twin(1), Some(Refusal { row: 11, place: 0, beside: 1 })),
+        (with_twin(0), Some(Refusal { row: 12, place: 0, beside: 0 })),
     ];
     for (frame, refusal) in answered {
         assert_eq!((found(&frame), judge(&frame)), (Some(0), refusal));

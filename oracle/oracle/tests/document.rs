@@ -43,6 +43,23 @@ fn no_lines_but_p() {
     assert_eq!(answer(twin_in_digits.as_bytes(), Build::Ruled), FRAME_ANSWER);
 }
 
+/// The twin's value is the third field of rows 7, 11 and 12 alone, 0 too.
+#[test]
+fn refusals_of_twins() {
+    let said = |twins: &str| {
+        let text = FRAME.replace("T 0 2 3 2 - -", &format!("T 0 2 3 {twins}"));
+        answer(text.as_bytes(), Build::Ruled)
+    };
+    assert_eq!(said("2 - 6"), "refused 7 5 6\n");
+    assert_eq!(said("2 - 4294967294"), "refused 7 5 4294967294\n");
+    assert_eq!(said("2 - 2"), "refused 11 5 2\n");
+    assert_eq!(said("2 - 0"), "refused 11 5 0\n");
+    assert_eq!(said("2 - 5"), "refused 12 5 5\n");
+    assert_eq!(said("2 - 4294967295"), FRAME_ANSWER);
+    let repeated = FRAME.replace("T 0 2 3 2 - -", "T 0 2 2 2 - 5");
+    assert_eq!(answer(repeated.as_bytes(), Build::Ruled), "refused 6 1\n");
+}
+
 #[test]
 fn two_quads_side_by_side() {
     let expected = "components 1\ncomponent 0 6 0\n0 0 0\n0 1 3\n1 0 1\n1 1 2\n2 0 4\n2 1 5\n";

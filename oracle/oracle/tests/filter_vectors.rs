@@ -44,7 +44,7 @@ fn as_the_words_say(case: &Case) {
             assert_eq!(kept[4 * count..], case.kept[4 * count..]);
             assert_eq!(work, zero);
         }
-        Err(Refusal { row: 9, place }) => {
+        Err(Refusal { row: 9, place, .. }) => {
             assert_eq!(4 * place as usize, worded(case).len());
             assert!(case.kept.len() < worded(case).len());
             assert_eq!((&work, &kept), (&zero, &case.kept));

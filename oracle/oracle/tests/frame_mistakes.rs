@@ -3,9 +3,11 @@
 
 mod common {
     pub mod mistakes;
+    pub mod twins;
 }
 
 use common::mistakes::{each_is_told, Mistake};
+use common::twins::{Twins, TWINS};
 use frame::{AxisPair, Component, Frame, Params};
 use oracle::demand;
 use oracle::judge::{missing_corner, paired, repeated_corner, Refusal};
@@ -16,13 +18,13 @@ use oracle::words;
 
 type Quad = [u32; 4];
 type Filter = fn(&Frame, &[Quad]) -> Vec<Quad>;
-/// What a row says of a case and of the components found: its place.
-type Row = fn(&Case, &dyn Fn() -> Vec<Component>) -> Option<usize>;
+/// What a row says of a case and of the components found.
+type Row = fn(&Case, &dyn Fn() -> Vec<Component>) -> Option<Refusal>;
 
 /// The frame's rules, each of which can be got wrong.
 struct Rules {
-    /// Tried in this order, each with its number.
-    rows: [(u32, Row); 10],
+    /// Tried in this order. Those of twins are one.
+    rows: [Row; 10],
     params: fn(Params) -> Params,
     axes: fn(&Frame) -> Vec<AxisPair>,
     classes: fn(&Frame, &[AxisPair]) -> Vec<u32>,
@@ -51,14 +53,8 @@ fn positions(case: &Case, greatest: f32) -> Option<usize> {
     case.frame.x.iter().zip(&case.frame.y).position(|(x, y)| far(x) || far(y))
 }
 
-fn twins(case: &Case) -> Option<usize> {
-    let frame = &case.frame;
-    (0..frame.half_edges()).find(|&e| {
-        let twin = frame.twins[e];
-        let back = frame.twins.get(twin as usize) == Some(&(e as u32));
-        let (from, to) = frame.ends(e);
-        twin != frame::NONE && !(back && frame.ends(twin as usize) == (to, from))
-    })
+fn twins(case: &Case) -> Option<Refusal> {
+    TWINS.refusal(&case.frame)
 }
 
 fn words_short(case: &Case, each: [usize; 2]) -> Option<usize> {
@@ -74,17 +70,22 @@ fn entries(found: &[Component]) -> usize {
     found.iter().map(|component| component.entries.len()).sum()
 }
 
-const ROWS: [(u32, Row); 10] = [
-    (1, |case, _| lengths(case)),
-    (2, |case, _| counts(case)),
-    (3, |case, _| numbers(case)),
-    (4, |case, _| positions(case, 1_048_576.0)),
-    (5, |case, _| missing_corner(&case.frame.triangles, case.frame.corners())),
-    (6, |case, _| repeated_corner(&case.frame.triangles, 3)),
-    (7, |case, _| twins(case)),
-    (8, |case, _| words_short(case, [16, 16])),
-    (9, |case, found| records_short(&case.components, found().len())),
-    (10, |case, found| records_short(&case.entries, entries(&found()))),
+/// A row other than those of twins, at its place.
+fn at(row: u32, place: Option<usize>) -> Option<Refusal> {
+    place.map(|place| Refusal::at(row, place as u32))
+}
+
+const ROWS: [Row; 10] = [
+    |case, _| at(1, lengths(case)),
+    |case, _| at(2, counts(case)),
+    |case, _| at(3, numbers(case)),
+    |case, _| at(4, positions(case, 1_048_576.0)),
+    |case, _| at(5, missing_corner(&case.frame.triangles, case.frame.corners())),
+    |case, _| at(6, repeated_corner(&case.frame.triangles, 3)),
+    |case, _| twins(case),
+    |case, _| at(8, words_short(case, [16, 16])),
+    |case, found| at(9, records_short(&case.components, found().len())),
+    |case, found| at(10, records_short(&case.entries, entries(&found()))),
 ];
 
 const RIGHT: Rules = Rules {
@@ -114,9 +115,7 @@ impl Rules {
     }
 
     fn refusal(&self, case: &Case, found: &dyn Fn() -> Vec<Component>) -> Option<Refusal> {
-        self.rows.iter().find_map(|&(row, place)| {
-            place(case, found).map(|place| Refusal { row, place: place as u32 })
-        })
+        self.rows.iter().find_map(|row| row(case, found))
     }
 
     /// Words at the front of a list, as far as it has room.
@@ -146,7 +145,8 @@ impl Rules {
         let components = || found.get_or_init(|| self.components(case)).clone();
         Told::by(case.lent(), |[work, heads, listed]| {
             let refusal = self.refusal(case, &components);
-            let kind = refusal.map_or(0, |refusal| if refusal.row > 8 { 1 } else { 2 });
+            let kind =
+                refusal.map_or(0, |refusal| if matches!(refusal.row, 9 | 10) { 1 } else { 2 });
             if self.zero[kind] {
                 work.fill(0);
             }
@@ -161,6 +161,18 @@ impl Rules {
 /// The rows with two that stand beside each other exchanged.
 fn exchanged(rules: &mut Rules, first: usize) {
     rules.rows.swap(first - 1, first);
+}
+
+/// One of the rows of twins tried before row 6.
+fn early<const ROW: u32>(rules: &mut Rules) {
+    rules.rows[5] =
+        |case, found| twins(case).filter(|r| r.row == ROW).or_else(|| ROWS[5](case, found));
+}
+
+/// One of the rows of twins tried behind row 8.
+fn late<const ROW: u32>(rules: &mut Rules) {
+    rules.rows[6] = |case, _| twins(case).filter(|r| r.row != ROW);
+    rules.rows[7] = |case, found| ROWS[7](case, found).or_else(|| twins(case));
 }
 
 fn all_informative(frame: &Frame) -> Vec<AxisPair> {
@@ -186,7 +198,7 @@ fn next(x: f32, steps: i32) -> f32 {
     Some(moved(x, steps)).filter(|x| x.is_finite()).unwrap_or(x)
 }
 
-const MISTAKES: [Mistake<Rules>; 45] = [
+const MISTAKES: [Mistake<Rules>; 52] = [
     ("rows 1 and 2 exchanged", |r| exchanged(r, 1)),
     ("rows 2 and 3 exchanged", |r| exchanged(r, 2)),
     ("rows 3 and 4 exchanged", |r| exchanged(r, 3)),
@@ -196,30 +208,43 @@ const MISTAKES: [Mistake<Rules>; 45] = [
     ("rows 7 and 8 exchanged", |r| exchanged(r, 7)),
     ("rows 8 and 9 exchanged", |r| exchanged(r, 8)),
     ("rows 9 and 10 exchanged", |r| exchanged(r, 9)),
+    ("row 7 before row 6", early::<7>),
+    ("row 11 before row 6", early::<11>),
+    ("row 12 before row 6", early::<12>),
+    ("row 7 behind row 8", late::<7>),
+    ("row 11 behind row 8", late::<11>),
+    ("row 12 behind row 8", late::<12>),
+    ("rows 11 and 12 behind row 10", |r| {
+        r.rows[6] = |case, _| Twins { tests: [TWINS.tests[0]; 3], ..TWINS }.refusal(&case.frame);
+        r.rows[9] = |case, found| ROWS[9](case, found).or_else(|| twins(case));
+    }),
     ("the words of the filters wanted", |r| {
-        r.rows[7].1 = |case, _| words_short(case, [5, 16]);
+        r.rows[7] = |case, _| at(8, words_short(case, [5, 16]));
     }),
     ("a word less wanted", |r| {
-        r.rows[7].1 = |case, _| words_short(case, [16, 16]).filter(|w| case.work.len() + 1 < *w);
+        r.rows[7] =
+            |case, _| at(8, words_short(case, [16, 16]).filter(|w| case.work.len() + 1 < *w));
     }),
     ("components' room in words", |r| {
-        r.rows[8].1 = |case, found| records_short(&case.components, 3 * found().len());
+        r.rows[8] = |case, found| at(9, records_short(&case.components, 3 * found().len()));
     }),
     ("entries' room a record less", |r| {
-        r.rows[9].1 = |case, found| {
+        r.rows[9] = |case, found| {
             let wanted = entries(&found());
-            records_short(&case.entries, wanted).filter(|_| case.entries.len() + 3 < 3 * wanted)
+            let short = records_short(&case.entries, wanted);
+            at(10, short.filter(|_| case.entries.len() + 3 < 3 * wanted))
         };
     }),
     ("corners' places in triangles", |r| {
-        r.rows[4].1 =
-            |case, _| missing_corner(&case.frame.triangles, case.frame.corners()).map(|p| p / 3);
+        r.rows[4] = |case, _| {
+            at(5, missing_corner(&case.frame.triangles, case.frame.corners()).map(|p| p / 3))
+        };
     }),
     ("the greatest position refused", |r| {
-        r.rows[3].1 = |case, _| positions(case, moved(1_048_576.0, -1));
+        r.rows[3] = |case, _| at(4, positions(case, moved(1_048_576.0, -1)));
     }),
     ("the next position taken", |r| {
-        r.rows[3].1 = |case, _| positions(case, moved(1_048_576.0, 1));
+        r.rows[3] = |case, _| at(4, positions(case, moved(1_048_576.0, 1)));
     }),
     ("a distance at the tolerance is Grid", |r| {
         r.params = |p| Params { tolerance: next(p.tolerance, 1), ..p };

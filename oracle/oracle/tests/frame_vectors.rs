@@ -18,7 +18,7 @@ use oracle::words;
 fn every_row() {
     let summary = Summary::of(&frame_cases());
     let counts = summary.counts;
-    assert_eq!(counts.rows(), [1, 2, 3, 4, 5, 6, 7, 8, 9, 10]);
+    assert_eq!(counts.rows(), [1, 2, 3, 4, 5, 6, 7, 8, 9, 10, 11, 12]);
     assert!(counts.cases >= 1_000 && counts.refused.values().all(|&count| count >= 25));
     assert!(summary.accepted.iter().all(|&count| count >= 15));
     assert!(summary.quads[0] >= 2_000 && summary.quads[1..].iter().all(|&count| count >= 100));
@@ -46,7 +46,7 @@ fn worded(case: &Case) -> [Vec<u32>; 2] {
 
 fn as_the_words_say(case: &Case) {
     let found = case.answer();
-    if let Err(Refusal { row: 8, place }) = found.result {
+    if let Err(Refusal { row: 8, place, .. }) = found.result {
         assert_eq!(place as usize, wanted(case));
     }
     as_wanted(found, [&case.work, &case.components, &case.entries], || worded(case));
@@ -78,7 +78,7 @@ fn just_accepted_and_just_refused() {
     assert!(either_side(&cases, 2, |case| case.frame.half_edges() == 24_579).1 > 0);
 }
 
-/// Every place that rows 3 and 7 can have in a small frame is asked for.
+/// Every place that row 3 can have is asked for, and several of each row that has several.
 #[test]
 fn places() {
     let cases = frame_cases();
@@ -92,7 +92,7 @@ fn places() {
     assert!(told(1).into_iter().chain(told(2)).eq([0, 0]));
     assert_eq!(told(3), (0..5).collect());
     assert!((0..6).all(|corner| told(4).contains(&corner)));
-    assert!((5..8).all(|row| told(row).len() >= 5));
+    assert!([5, 6, 7, 11, 12].iter().all(|&row| told(row).len() >= 5));
     assert!((8..11).all(|row| told(row).len() >= 3 && !told(row).contains(&0)));
 }
 

@@ -1,7 +1,7 @@
 // Frames for long comparisons: all kinds come, and what is expected of them hangs together.
 
 use oracle::compare::first_difference;
-use oracle::frames::{drawn, expected, Between};
+use oracle::frames::{drawn, expected, full_twins, Between};
 use oracle::judge::judge;
 use oracle::vectors::Vector;
 use std::collections::BTreeMap;
@@ -42,6 +42,19 @@ fn what_is_expected() {
     }
     assert_eq!(kinds.len(), 17);
     assert_eq!(most, [4_096, 24_576]);
-    assert!(rows.keys().copied().eq(1..=10), "{rows:?}");
+    assert!(rows.keys().copied().eq(1..=12), "{rows:?}");
     assert!(marks.iter().all(|&count| count > 100), "{marks:?}");
+}
+
+#[test]
+fn twins_of_full_frames() {
+    let cases = full_twins();
+    for (case, refusal) in &cases {
+        assert_eq!((case.frame.half_edges(), judge(&case.frame)), (24_576, *refusal));
+        assert_eq!(expected(case).told.result.err(), *refusal);
+    }
+    let (sound, refusal) = &cases[0];
+    assert!(refusal.is_none() && sound.frame.twins.contains(&24_575));
+    let told = |row| cases.iter().flat_map(|(_, refusal)| refusal).filter(|r| r.row == row).count();
+    assert_eq!([7, 11, 12].map(told), [4, 3, 1]);
 }

@@ -2,8 +2,9 @@
 
 use frame::{Frame, NONE};
 use oracle::generate::{damage::damage, maker};
-use oracle::judge::{judge, Refusal};
+use oracle::judge::judge;
 use oracle::random::Random;
+use std::collections::BTreeSet;
 
 /// Two triangles that share a side.
 fn sound() -> Frame {
@@ -63,24 +64,43 @@ fn rows_4_to_6() {
     assert_eq!(after(|f| f.triangles[4] = 0), Some((6, 1)));
 }
 
+/// What is answered with these twins of the half-edges.
+fn with_twins(words: &[(usize, u32)]) -> [u32; 3] {
+    let mut frame = sound();
+    words.iter().for_each(|&(e, word)| frame.twins[e] = word);
+    judge(&frame).map(|r| [r.row, r.place, r.beside]).unwrap()
+}
+
 #[test]
-fn row_7() {
-    assert_eq!(after(|f| f.twins[4] = 6), Some((7, 4)));
-    assert_eq!(after(|f| f.twins[2] = 9), Some((7, 2)));
-    assert_eq!(after(|f| f.twins[2] = NONE), Some((7, 3)));
-    assert_eq!(after(|f| f.twins[5] = 5), Some((7, 5)));
-    assert_eq!(after(|f| (f.twins[0], f.twins[1]) = (1, 0)), Some((7, 0)));
+fn rows_7_11_and_12() {
+    assert_eq!(with_twins(&[(4, 6)]), [7, 4, 6]);
+    assert_eq!(with_twins(&[(2, 9)]), [7, 2, 9]);
+    assert_eq!(with_twins(&[(2, NONE - 1)]), [7, 2, NONE - 1]);
+    assert_eq!(with_twins(&[(2, NONE)]), [11, 3, 2]);
+    assert_eq!(with_twins(&[(3, 6)]), [11, 2, 3]);
+    assert_eq!(with_twins(&[(5, 0)]), [11, 5, 0]);
+    assert_eq!(with_twins(&[(5, 5)]), [12, 5, 5]);
+    assert_eq!(with_twins(&[(0, 1), (1, 0)]), [12, 0, 1]);
+}
+
+#[test]
+fn the_first_half_edge_before_the_lower_row() {
+    assert_eq!(with_twins(&[(0, 0), (1, 6)]), [12, 0, 0]);
+    assert_eq!(with_twins(&[(0, 2), (1, 6)]), [11, 0, 2]);
+    assert_eq!(with_twins(&[(0, 0), (1, 0)]), [12, 0, 0]);
 }
 
 #[test]
 fn generated() {
     let make = maker("warped").unwrap();
+    let mut rows = BTreeSet::new();
     for i in 0..700 {
         let mut random = Random::part(7, i);
         let mut frame = make(20, &mut random);
         assert_eq!(judge(&frame), None);
-        let row = 1 + (i % 7) as u32;
-        let expected: Refusal = damage(row, &mut frame, &mut random);
+        let expected = damage(1 + (i % 7) as u32, &mut frame, &mut random);
         assert_eq!(judge(&frame), Some(expected), "frame {i}");
+        rows.insert(expected.row);
     }
+    assert!(rows.into_iter().eq([1, 2, 3, 4, 5, 6, 7, 11, 12]));
 }

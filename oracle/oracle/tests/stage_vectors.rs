@@ -17,7 +17,7 @@ fn every_row_of_every_call() {
     let rows = |kind: Kind| counts(kind).rows();
     assert_eq!(rows(Kind::Axis), [3]);
     assert_eq!(rows(Kind::Classes), [1, 2, 3, 4, 5, 6]);
-    assert_eq!(rows(Kind::Quads), [1, 2, 4, 5, 6, 7, 9]);
+    assert_eq!(rows(Kind::Quads), [1, 2, 4, 5, 6, 7, 9, 11, 12]);
     for kind in Kind::ALL {
         assert!(counts(kind).cases >= 500);
     }

@@ -15,8 +15,10 @@ fn where_answers_part() {
     assert!(said(&told(2, &[7, 8, 9])).contains("Ok([2])"));
     assert_eq!(said(&told(1, &[7, 8, 0])), "list 1, word 2: Some(9) and Some(0)");
     assert_eq!(said(&told(1, &[7, 8])), "list 1, word 2: Some(9) and None");
-    let refused = Told { result: Err(Refusal { row: 9, place: 1 }), ..right.clone() };
-    assert!(right.parted(&refused).is_some());
-    let elsewhere = Told { result: Err(Refusal { row: 9, place: 2 }), ..right.clone() };
-    assert!(refused.parted(&elsewhere).is_some());
+    let refused = |refusal| Told { result: Err(refusal), ..right.clone() };
+    let twin = Refusal { row: 11, place: 1, beside: 2 };
+    assert!(right.parted(&refused(twin)).is_some());
+    let others =
+        [Refusal { row: 12, ..twin }, Refusal { place: 2, ..twin }, Refusal { beside: 0, ..twin }];
+    assert!(others.iter().all(|&other| refused(twin).parted(&refused(other)).is_some()));
 }

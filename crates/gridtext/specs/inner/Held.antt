@@ -19,12 +19,12 @@ pub record Holds (components entries : List ℕ) (count : ℕ) (answer : List (L
   pub count-is : count ≡ length answer
 
 -- a number takes at most ten digits, and eleven bytes with what stands before or after it: "bad", its number and the line feed; "refused",
--- two numbers and the line feed
+-- three numbers and the line feed
 abbrev pub badBytes : ℕ
 badBytes = 15
 
 abbrev pub refusedBytes : ℕ
-refusedBytes = 30
+refusedBytes = 41
 
 -- "components", its number and the line feed; "component", three numbers and the line feed; three numbers to an entry
 unfoldable pub mostBytes : (components entries : ℕ) → ℕ

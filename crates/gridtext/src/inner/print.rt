@@ -77,14 +77,18 @@ pub fn print_bad(line: u32, out: &mut [u8]) -> usize
     end_one(out, next, line)
 }
 
-// A refusal, by its number and place.
+// A refusal, by its number and place, and what stands beside the place.
 pub fn print_refused(why: Refusal, out: &mut [u8]) -> usize
     requires { ⌜ refusedBytes ≤ length (now out) ⌝ }
     ensures { λ r. ⌜ Printed (now (out .entry)) (now (out .exit)) 0 (refusedText why) r ⌝ }
 {
     let number = refusal::number(why);
     let place = refusal::place(why);
+    let beside = refusal::beside(why);
     let next = put_bytes(out, 0, b"refused");
+    if refusal::has_beside(number) {
+        return end_three(out, next, number, place, beside);
+    }
     end_two(out, next, number, place)
 }
 

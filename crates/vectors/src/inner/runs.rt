@@ -3,18 +3,33 @@
 ghost use mathlib.Core.Path.{_≡_};
 ghost use Prim.Native.Nat.{_<_, _≤_};
 ghost use lib.ListN.{length};
-ghost use Rattle.vectors.specs.Hex.{refusalLine};
+ghost use Rattle.vectors.specs.Hex.{besideField, refusalLine};
 ghost use Rattle.digits.specs.Digits.{decimalOf};
 ghost use Rattle.vectors.specs.inner.Lines.{countLine, countsLine, runsOf, Run};
 use refusal::Refusal;
+
+// The field's number of bytes: 0 where the row has nothing beside its place.
+fn write_beside(why: Refusal) -> usize
+    ensures { λ r. ⌜ (r ≡ length (besideField why)) × (r ≤ 9) ⌝ }
+{
+    if refusal::has_beside(refusal::number(why)) {
+        let digits = crate::hex(refusal::beside(why));
+        io::write_all(1, b" ");
+        io::write_all(1, &digits);
+        return 9;
+    }
+    0
+}
 
 // The line's number of bytes.
 pub fn write_refusal(why: Refusal) -> usize
     ensures { λ r. ⌜ r ≡ length (refusalLine why) ⌝ }
 {
-    let line = crate::refusal_line(why);
-    io::write_all(1, &line);
-    line.len()
+    let front = crate::refusal_front(why);
+    io::write_all(1, &front);
+    let beside = write_beside(why);
+    io::write_all(1, b"\n");
+    front.len() + beside + 1
 }
 
 // Where the run that begins at `from` ends.

@@ -14,10 +14,10 @@ pub fn frame_words(half_edges: usize, corners: usize) -> usize {
     WORDS * (half_edges + corners)
 }
 
-/// Rows 1 to 8.
+/// The rows up to 8.
 pub fn judge_frame(frame: &Frame, work: &[u32]) -> Option<Refusal> {
     let wanted = frame_words(frame.half_edges(), frame.corners());
-    let short = || (work.len() < wanted).then_some(Refusal { row: 8, place: wanted as u32 });
+    let short = || (work.len() < wanted).then_some(Refusal::at(8, wanted as u32));
     judge(frame).or_else(short)
 }
 

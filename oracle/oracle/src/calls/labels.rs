@@ -50,7 +50,7 @@ pub(super) fn write_answer(
 /// Rows 1 to 8.
 fn judge(given: &Given, work: &[u32]) -> Option<Refusal> {
     let corners = given.corners as usize;
-    let row_8 = |wanted: usize| Refusal { row: 8, place: wanted as u32 };
+    let row_8 = |wanted: usize| Refusal::at(8, wanted as u32);
     judge_quads(given.quads, corners).or_else(|| short(given.quads, corners, work).map(row_8))
 }
 

@@ -16,9 +16,20 @@ const CORNERS: usize = MOST_TEXT_CORNERS;
 /// A sound frame's text.
 fn sound(kind: &str, random: &mut Random) -> Result<String, String> {
     let names: Vec<&str> = KINDS.iter().map(|k| k.0).collect();
-    let make = maker(kind)
-        .ok_or_else(|| format!("no kind {kind:?}; kinds: {} row3 .. row7 bad", names.join(" ")))?;
+    let make = maker(kind).ok_or_else(|| {
+        format!("no kind {kind:?}; kinds: {} row3 .. row7 row11 row12 bad", names.join(" "))
+    })?;
     Ok(texts::sound(make, CORNERS, random))
+}
+
+/// The text of a frame that this row refuses, drawn again where another of the rows of twins does.
+fn refused(row: u32, random: &mut Random) -> String {
+    loop {
+        let (text, refusal) = texts::damaged(row.min(7), CORNERS, random);
+        if refusal.row == row {
+            return text;
+        }
+    }
 }
 
 /// The text with this number. "bad" goes through the ways of spoiling one in turn.
@@ -29,7 +40,7 @@ fn text(kind: &str, seed: u64, i: usize) -> Result<Vec<u8>, String> {
         return Ok(spoil(WAYS[i % WAYS.len()], &good, &mut random).0);
     }
     match kind.strip_prefix("row").and_then(|row| row.parse().ok()) {
-        Some(row @ 3..=7) => Ok(texts::damaged(row, CORNERS, &mut random).into_bytes()),
+        Some(row @ (3..=7 | 11 | 12)) => Ok(refused(row, &mut random).into_bytes()),
         _ => Ok(sound(kind, &mut random)?.into_bytes()),
     }
 }

@@ -93,29 +93,34 @@ fn find(frame: &Frame, random: &mut Random, fits: impl Fn(usize) -> bool) -> Opt
     (0..count).map(|i| (start + i) % count).find(|&e| fits(e))
 }
 
-fn past_the_end(frame: &mut Frame, random: &mut Random) -> u32 {
-    let e = random.below(frame.half_edges());
-    let old = frame.twins[e];
-    frame.twins[e] = random.pick(&[frame.half_edges() as u32, NONE - 1]);
-    old.min(e as u32)
+/// Where the half-edge had a twin before it, that one comes first, and is not pointed back to.
+fn past_the_end(frame: &mut Frame, random: &mut Random) -> Refusal {
+    let e = random.below(frame.half_edges()) as u32;
+    let old = frame.twins[e as usize];
+    let past = random.pick(&[frame.half_edges() as u32, NONE - 1]);
+    frame.twins[e as usize] = past;
+    if old < e {
+        return Refusal { row: 11, place: old, beside: e };
+    }
+    Refusal { row: 7, place: e, beside: past }
 }
 
-fn not_back(frame: &mut Frame, random: &mut Random) -> Option<u32> {
+fn not_back(frame: &mut Frame, random: &mut Random) -> Option<Refusal> {
     let open = find(frame, random, |e| frame.twins[e] == NONE)?;
     let other = find(frame, random, |f| f != open)?;
     frame.twins[open] = other as u32;
-    Some(open as u32)
+    Some(Refusal { row: 11, place: open as u32, beside: other as u32 })
 }
 
-fn wrong_corners(frame: &mut Frame, random: &mut Random) -> Option<u32> {
+fn wrong_corners(frame: &mut Frame, random: &mut Random) -> Option<Refusal> {
     let e = find(frame, random, |e| frame.twins[e] == NONE)?;
     let (from, to) = frame.ends(e);
     let f = find(frame, random, |f| frame.twins[f] == NONE && frame.ends(f) != (to, from))?;
     (frame.twins[e], frame.twins[f]) = (f as u32, e as u32);
-    Some(e.min(f) as u32)
+    Some(Refusal { row: 12, place: e.min(f) as u32, beside: e.max(f) as u32 })
 }
 
-fn twins(frame: &mut Frame, random: &mut Random) -> u32 {
+fn twins(frame: &mut Frame, random: &mut Random) -> Refusal {
     let found = match random.below(3) {
         0 => not_back(frame, random),
         1 => wrong_corners(frame, random),
@@ -124,26 +129,27 @@ fn twins(frame: &mut Frame, random: &mut Random) -> u32 {
     found.unwrap_or_else(|| past_the_end(frame, random))
 }
 
-fn damage_row(row: u32, frame: &mut Frame, random: &mut Random) -> u32 {
-    match row {
+fn damage_row(row: u32, frame: &mut Frame, random: &mut Random) -> Refusal {
+    let place = match row {
         1 => lengths(frame, random),
         2 => counts(frame, random),
         3 => parameters(frame, random),
         4 => positions(frame, random),
         5 => missing_corner(frame, random),
         6 => repeated_corner(frame, random),
-        _ => twins(frame, random),
-    }
+        _ => return twins(frame, random),
+    };
+    Refusal::at(row, place)
 }
 
-/// Damages a frame that has triangles so that the row given is the first to refuse it.
-/// Later rows may be damaged too: they must not be seen.
+/// Damages a frame that has triangles so that the row given is the first to refuse it; 7 stands
+/// for the rows of twins, of which one is drawn. Later rows may be damaged too: they must not be
+/// seen.
 pub fn damage(row: u32, frame: &mut Frame, random: &mut Random) -> Refusal {
     for later in (row + 1..=7).rev() {
         if random.one_in(4) && later != 2 {
             damage_row(later, frame, random);
         }
     }
-    let place = damage_row(row, frame, random);
-    Refusal { row, place }
+    damage_row(row, frame, random)
 }

@@ -2,6 +2,7 @@
 
 use super::damage::damage;
 use super::{Maker, KINDS};
+use crate::judge::Refusal;
 use crate::random::Random;
 use crate::text::{fits, write};
 use frame::Frame;
@@ -22,14 +23,15 @@ pub fn sound(make: Maker, corners: usize, random: &mut Random) -> String {
     write(&drawn(make, corners, random))
 }
 
-/// The text of a frame that a row refuses, one of 3 to 7: rows 1 and 2 cannot be said in a text.
-pub fn damaged(row: u32, corners: usize, random: &mut Random) -> String {
+/// The text of a frame that a row refuses, one of 3 to 7 as `damage` has them: rows 1 and 2 cannot be
+/// said in a text. With it what must be answered.
+pub fn damaged(row: u32, corners: usize, random: &mut Random) -> (String, Refusal) {
     loop {
         let make = KINDS[random.below(4)].1;
         let mut frame = drawn(make, corners, random);
-        damage(row, &mut frame, random);
+        let refusal = damage(row, &mut frame, random);
         if fits(&frame) {
-            return write(&frame);
+            return (write(&frame), refusal);
         }
     }
 }

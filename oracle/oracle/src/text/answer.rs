@@ -1,7 +1,7 @@
 // The program's answer to a text.
 
 use super::read::read;
-use crate::judge::judge;
+use crate::judge::{judge, Refusal};
 use crate::stages::Build;
 use frame::Component;
 
@@ -18,6 +18,12 @@ pub fn print_components(components: &[Component]) -> String {
     out
 }
 
+/// The line of a refusal.
+fn refused(refusal: &Refusal) -> String {
+    let fields: String = refusal.fields().map(|field| format!(" {field}")).collect();
+    format!("refused{fields}\n")
+}
+
 /// What gridlabel prints for a text.
 pub fn answer(text: &[u8], build: Build) -> String {
     let frame = match read(text) {
@@ -25,7 +31,7 @@ pub fn answer(text: &[u8], build: Build) -> String {
         Err(line) => return format!("bad {line}\n"),
     };
     match judge(&frame) {
-        Some(refusal) => format!("refused {} {}\n", refusal.row, refusal.place),
+        Some(refusal) => refused(&refusal),
         None => print_components(&build.run(&frame).components),
     }
 }

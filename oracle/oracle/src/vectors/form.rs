@@ -48,7 +48,8 @@ pub fn text(words: &[u32]) -> String {
 
 /// The line of a refusal.
 pub fn refused(refusal: &Refusal) -> String {
-    format!("refused {:08X} {:08X}", refusal.row, refusal.place)
+    let fields: String = refusal.fields().map(|field| format!(" {field:08X}")).collect();
+    format!("refused{fields}")
 }
 
 /// Each longest run of equal words as its length and the word.

@@ -16,7 +16,7 @@ pub fn either_side<C: Vector>(cases: &[C], row: u32, picks: impl Fn(&C) -> bool)
 
 /// Whether the rows before 9 let a case pass.
 pub fn sound(case: &impl Vector) -> bool {
-    case.refusal().is_none_or(|refusal| refusal.row >= 9)
+    case.refusal().is_none_or(|refusal| matches!(refusal.row, 9 | 10))
 }
 
 /// One list of a case's words: length, given, fill, words.

@@ -34,7 +34,7 @@ pub fn as_wanted(found: Told<2, 3>, lent: [&Vec<u32>; 3], wanted: impl Fn() -> [
             assert_eq!(left[1..], [fronted(&records, components), fronted(&listed, entries)]);
             assert_eq!(left[0], zero);
         }
-        Err(Refusal { row: row @ (9 | 10), place }) => {
+        Err(Refusal { row: row @ (9 | 10), place, .. }) => {
             let list = [components, entries][row as usize - 9];
             assert_eq!(place as usize, wanted()[row as usize - 9].len() / 3);
             assert!(list.len() / 3 < place as usize);

@@ -15,6 +15,7 @@ mod work;
 
 pub use case::Case;
 pub use lend::lend;
+pub(super) use order::twins as twin_orders;
 pub use shapes::{holed, noisy, square_grid};
 pub use summary::Summary;
 
@@ -23,7 +24,7 @@ use super::vector::gathered;
 use std::io;
 use std::path::Path;
 
-/// All cases, those chosen by hand before the drawn ones.
+/// All cases: those chosen by hand, the drawn ones, and the rows of twins told apart.
 pub fn frame_cases() -> Vec<Case> {
     gathered(&[
         lengths::add,
@@ -35,6 +36,8 @@ pub fn frame_cases() -> Vec<Case> {
         shapes::add,
         full::add,
         drawn::add,
+        rows::twin_faults,
+        order::twins,
     ])
 }
 

@@ -3,6 +3,7 @@
 use super::Case;
 use crate::vectors::faults::{self, Fault};
 use crate::vectors::meshes::{crowd, strip};
+use crate::vectors::{twin_rows, Vector};
 use frame::NONE;
 
 /// Faults in order of their rows; rows 1, 2 and 3 have two. The strip has one component of eight
@@ -26,8 +27,22 @@ const FAULTS: [Fault<Case>; 13] = [
     |case| case.entries.truncate(23),
 ];
 
+/// Which of them is of twins.
+const TWINS: usize = 9;
+
 pub fn add(cases: &mut Vec<Case>) {
     let sound = Case::of(strip(3));
     cases.push(sound.clone());
     faults::add(cases, &sound, &FAULTS);
+}
+
+/// Each of the rows of twins, by itself and with a fault of each other row.
+pub fn twins(cases: &mut Vec<Case>) {
+    let sound = Case::of(strip(3));
+    for fault in twin_rows::EACH {
+        let bad = sound.with(|case| fault(&mut case.frame));
+        let others = FAULTS[..TWINS].iter().chain(&FAULTS[TWINS + 1..]);
+        cases.extend(others.map(|other| bad.with(other)));
+        cases.push(bad);
+    }
 }

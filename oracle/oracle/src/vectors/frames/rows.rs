@@ -1,9 +1,9 @@
-// Rows 2 and 4 to 7 one at a time, each with the nearest input that it lets pass.
+// Rows 2, 4 to 6 and those of twins one at a time, each with the nearest input that it lets pass.
 
 use super::Case;
 use crate::vectors::frame_rows::{changed, corner_counts, names, positions, repeated};
 use crate::vectors::meshes::{crowd, square};
-use crate::vectors::twin_rows::{several_words, single_words};
+use crate::vectors::twin_rows::{faults, several_words, single_words};
 use frame::{Frame, NONE};
 
 /// Triangles of one word repeated up to a number of half-edges: past row 2 the first that is no
@@ -43,4 +43,9 @@ pub fn add(cases: &mut Vec<Case>) {
     repeated(&mut one);
     single_words(&mut one);
     several_words(&mut one);
+}
+
+/// Which of the rows of twins it is, and at which half-edge.
+pub fn twin_faults(cases: &mut Vec<Case>) {
+    faults(&mut |_, changed| cases.push(lent(changed)));
 }

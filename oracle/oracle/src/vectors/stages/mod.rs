@@ -26,7 +26,7 @@ use super::vector::gathered;
 use std::io;
 use std::path::Path;
 
-/// All cases, those chosen by hand before the drawn ones.
+/// All cases: those chosen by hand, the drawn ones, and the rows of twins told apart.
 pub fn stage_cases() -> Vec<Case> {
     gathered(&[
         axis::add,
@@ -39,6 +39,8 @@ pub fn stage_cases() -> Vec<Case> {
         twins::add,
         quad_shapes::add,
         drawn::add,
+        twins::faults,
+        order::twins,
     ])
 }
 

@@ -1,4 +1,4 @@
-// Row 7: twins that are out of range, do not point back, or run between other corners.
+// The rows of twins: those past the end, that do not point back, or run between other corners.
 
 use super::Case;
 use crate::vectors::meshes::{mesh, SQUARE};
@@ -41,12 +41,20 @@ fn folded_flat(cases: &mut Vec<Case>) {
     }
 }
 
+/// A frame whose twins are changed, with the classes of the sound one.
+fn of_frame(sound: &Frame, changed: Frame) -> Case {
+    Case::quads_of(sound.clone()).with(|case| case.frame = changed)
+}
+
 pub fn add(cases: &mut Vec<Case>) {
-    let mut quads = |sound: &Frame, changed: Frame| {
-        cases.push(Case::quads_of(sound.clone()).with(|case| case.frame = changed));
-    };
+    let mut quads = |sound: &Frame, changed: Frame| cases.push(of_frame(sound, changed));
     twin_rows::single_words(&mut quads);
     twin_rows::several_words(&mut quads);
     all_links(cases);
     folded_flat(cases);
+}
+
+/// Which row it is, and at which half-edge.
+pub fn faults(cases: &mut Vec<Case>) {
+    twin_rows::faults(&mut |sound, changed| cases.push(of_frame(sound, changed)));
 }

@@ -29,10 +29,10 @@ pub fn sound() -> Vec<Vec<u8>> {
     (0..count).map(text).collect()
 }
 
-/// Rows 3 to 7 in turn.
+/// Rows 3 to 6 and one of those of twins in turn.
 pub fn refused() -> Vec<Vec<u8>> {
     let text = |i: u32| texts::damaged(3 + i % 5, 16, &mut Random::part(SEED + 1, i as u64));
-    (0..60).map(|i| text(i).into_bytes()).collect()
+    (0..60).map(|i| text(i).0.into_bytes()).collect()
 }
 
 /// Every way of spoiling a text, some times.

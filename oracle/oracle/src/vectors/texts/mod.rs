@@ -5,6 +5,7 @@ mod drawn;
 mod limits;
 mod lines;
 mod summary;
+mod twins;
 
 pub use summary::Summary;
 
@@ -26,7 +27,7 @@ impl Group {
     }
 }
 
-/// All texts, those chosen by hand before the drawn ones.
+/// All texts: those chosen by hand, the drawn ones, and the rows of twins told apart.
 pub fn text_groups() -> Vec<Group> {
     vec![
         Group::of("lines", lines::texts()),
@@ -35,6 +36,7 @@ pub fn text_groups() -> Vec<Group> {
         Group::of("spoiled", drawn::spoiled()),
         Group::of("refused", drawn::refused()),
         Group::of("sound", drawn::sound()),
+        Group::of("twins", twins::texts()),
     ]
 }
 

@@ -1,8 +1,8 @@
--- `refusal_line` is `refusalLine`: its digits are those of the row and the place.
+-- `refusal_front` is `refusalFront`: its digits are those of the row and the place.
 use borrow.Author.Needs.{needs}
-use Rattle.vectors.specs.Hex.{refusalLine}
-use Rattle.vectors.proofs.refusal_line.Statement.{statement}
-use Rattle.vectors.proofs.refusal_line.Tie as tie
+use Rattle.vectors.specs.Hex.{refusalFront}
+use Rattle.vectors.proofs.refusal_front.Statement.{statement}
+use Rattle.vectors.proofs.refusal_front.Tie as tie
 
 number-requires : tie.Need-number-requires
 number-requires c κs = search needs
@@ -65,11 +65,11 @@ array-read-t53 : tie.Need-array-read-t53
 array-read-t53 c = search needs
 
 returns : tie.Need-returns
-unfolding refusalLine
+unfolding refusalFront
 returns c = (rw (c .hex2 .ensures .0, c .before .place .ensures, c .before .before .hex .ensures .0, c .before .before .before .number .ensures), search needs)
 
-pub refusal-line-spec : {M : Type 1} → statement M
-refusal-line-spec =
+pub refusal-front-spec : {M : Type 1} → statement M
+refusal-front-spec =
     tie.close
     (tie.spec
     number-requires
