@@ -89,11 +89,21 @@ static int make_twins(const uint32_t *corner, size_t half_edges, uint32_t *twin)
     return 1;
 }
 
+static void print_refusal(ngeunsadok_counts counts) {
+    printf("refused %lu, place %lu", (unsigned long)counts.refused, (unsigned long)counts.place);
+    switch (counts.refused) {
+    case NGEUNSADOK_TWIN_PAST_END:
+    case NGEUNSADOK_TWIN_NOT_BACK:
+    case NGEUNSADOK_TWIN_ELSEWHERE: printf(", beside %lu", (unsigned long)counts.beside);
+    }
+    printf(": %s\n", ngeunsadok_words(counts.refused));
+}
+
 static void print_answer(ngeunsadok_counts counts) {
     uint32_t k, i;
 
     if (counts.refused) {
-        printf("refused %lu, place %lu: %s\n", (unsigned long)counts.refused, (unsigned long)counts.place, ngeunsadok_words(counts.refused));
+        print_refusal(counts);
         return;
     }
     for (k = 0; k < counts.components; k++) {
@@ -120,7 +130,7 @@ int main(void) {
 
     /* an entry list with too little room */
     print_answer(ngeunsadok_label(&frame, &params, work, words, components, records, entries, 15));
-    /* a twin that runs between other corners */
+    /* a twin that does not point back */
     twins[2] = 4;
     print_answer(ngeunsadok_label(&frame, &params, work, words, components, records, entries, room));
     return 0;

@@ -46,8 +46,10 @@
  * no fault. The answer fills the front of such a list, and the rest stays as it was.
  *
  * REFUSALS
- * refused is 0 on success. Else it is the number of the first row that applies, of those that the call has, place is its place, and every
- * other field of the answer is 0.
+ * refused is 0 on success. Else it is the number of the first row that applies, of those that the call has and in the order below, place is
+ * its place, and every other field of the answer is 0, but for beside in rows 7, 11 and 12: there it is the twin's own value, which may be
+ * 0 too. In every other answer, success among them, beside is 0. Rows 7, 11 and 12 are tried between 6 and 8 as one: the first half-edge
+ * with a wrong twin is told, by the first of the three that applies to it.
  *
  *   1  paired lists differ in length (x, y, axes at two slots a corner; triangles, twins, classes), or a list of triangles or quads is
  *      not whole; place 0
@@ -57,8 +59,9 @@
  *      2,097,152 in magnitude; for the root, a value NaN, infinite or below zero; place 0
  *   5  a triangle or quad names a corner that does not exist, or else a class read is above 2; place: the position in its list
  *   6  a triangle or quad names a corner twice; place: the triangle or quad
- *   7  a twin is neither NGEUNSADOK_NO_TWIN nor a half-edge, its own twin is not this half-edge, or it does not run between the same
- *      corners the other way; place: the half-edge
+ *   7  a twin is neither NGEUNSADOK_NO_TWIN nor a half-edge: it is past the end; place: the half-edge
+ *  11  a twin does not point back: its own twin is not this half-edge; place: the half-edge
+ *  12  a twin does not run between the same corners the other way; place: the half-edge
  *   8  the workspace is too short; place: the words wanted
  *   9  the component list, or the quad list, has less room than the answer has records; place: the records wanted
  *  10  the entry list has less room than the answer has entries; place: the entries wanted
@@ -95,10 +98,12 @@ enum {
     NGEUNSADOK_RANGE = 4,
     NGEUNSADOK_NAMED = 5,
     NGEUNSADOK_TWICE = 6,
-    NGEUNSADOK_TWIN = 7,
+    NGEUNSADOK_TWIN_PAST_END = 7,
     NGEUNSADOK_WORKSPACE = 8,
     NGEUNSADOK_RECORDS = 9,
-    NGEUNSADOK_ENTRIES = 10
+    NGEUNSADOK_ENTRIES = 10,
+    NGEUNSADOK_TWIN_NOT_BACK = 11,
+    NGEUNSADOK_TWIN_ELSEWHERE = 12
 };
 
 /* The words of workspace that a whole frame asks for, with the number of its half-edges, that is, the elements of triangles. */
@@ -141,12 +146,14 @@ typedef struct {
 typedef struct {
     uint32_t refused;
     uint32_t place;
+    uint32_t beside;
     uint32_t count;
 } ngeunsadok_count;
 
 typedef struct {
     uint32_t refused;
     uint32_t place;
+    uint32_t beside;
     uint32_t components;
     uint32_t entries;
 } ngeunsadok_counts;
@@ -217,8 +224,8 @@ ngeunsadok_cache ngeunsadok_axis_cache(float angle0, uint32_t marked0, float spr
  * 3 * (h / 6) and 12 * (h / 6) words always have room.
  * Lent: work, of NGEUNSADOK_FRAME_WORK(h, corners) words or more. ngeunsadok_label below makes the same call with structs.
  *
- * Rows 1 to 10. Rows 1 to 8 leave work, components and entries as they were. Rows 9 and 10 leave components and entries as they were and
- * all of work zero. Success leaves all of work zero, and components and entries as they were past the answer. */
+ * Rows 1 to 12. Rows 9 and 10 leave components and entries as they were and all of work zero; the others leave work, components and
+ * entries as they were. Success leaves all of work zero, and components and entries as they were past the answer. */
 ngeunsadok_counts ngeunsadok_label_frame(const float *x, size_t x_count, const float *y, size_t y_count, const float *angles,
                                          size_t angle_count, const uint32_t *marks, size_t mark_count, const float *spreads,
                                          size_t spread_count, const uint32_t *triangles, size_t triangle_words, const uint32_t *twins,
@@ -233,7 +240,7 @@ ngeunsadok_verdict ngeunsadok_classify_all_edges(const float *x, size_t x_count,
                                                  float limit, uint32_t *classes, size_t class_count);
 
 /* A quad for each pair of triangles that meet at the only diagonal of both; count is how many. There are at most half as many as
- * triangles. Rows 1, 2, 4 to 7 and 9. */
+ * triangles. Rows 1, 2, 4 to 7, 11, 12 and 9. */
 ngeunsadok_count ngeunsadok_merge_triangle_pairs(const float *x, size_t x_count, const float *y, size_t y_count,
                                                  const uint32_t *triangles, size_t triangle_words, const uint32_t *twins,
                                                  size_t twin_count, const uint32_t *classes, size_t class_count, uint32_t *quads,
@@ -265,7 +272,7 @@ static inline ngeunsadok_counts ngeunsadok_label(const ngeunsadok_frame *frame, 
                                   3 * component_count, (uint32_t *)entries, 3 * entry_count);
 }
 
-/* What a refusal says, and what its place is. */
+/* What a refusal says, what its place is, and for a twin what beside is. */
 static inline const char *ngeunsadok_words(uint32_t refused) {
     switch (refused) {
     case NGEUNSADOK_DONE: return "not refused";
@@ -276,10 +283,13 @@ static inline const char *ngeunsadok_words(uint32_t refused) {
     case NGEUNSADOK_RANGE: return "a position, or the single number given, is out of range; place: the corner, or 0";
     case NGEUNSADOK_NAMED: return "a corner that does not exist is named, or a class is above 2; place: the position in its list";
     case NGEUNSADOK_TWICE: return "a triangle or quad names a corner twice; place: the triangle or quad";
-    case NGEUNSADOK_TWIN: return "a twin does not exist, point back, or run the other way; place: the half-edge";
+    case NGEUNSADOK_TWIN_PAST_END: return "a twin is past the end of the list; place: the half-edge; beside: its twin";
     case NGEUNSADOK_WORKSPACE: return "the workspace is too short; place: the words wanted";
     case NGEUNSADOK_RECORDS: return "the list of components or quads is too short; place: the records wanted";
     case NGEUNSADOK_ENTRIES: return "the list of entries is too short; place: the entries wanted";
+    case NGEUNSADOK_TWIN_NOT_BACK: return "a twin does not point back; place: the half-edge; beside: its twin";
+    case NGEUNSADOK_TWIN_ELSEWHERE:
+        return "a twin does not run between the same corners the other way; place: the half-edge; beside: its twin";
     default: return "a refusal that this header does not know";
     }
 }

@@ -70,20 +70,49 @@ static ngeunsadok_counts framed(const uint32_t *twin, size_t words, size_t entry
 }
 
 static void frame(void) {
-    const uint32_t one_sided[6] = {NONE, NONE, 3, NONE, NONE, NONE};
     ngeunsadok_counts counts = framed(twins, 160, 13);
 
     EXPECT(bits(UP) == 0x3FC90FDB);
-    EXPECT(counts.refused == 0 && counts.place == 0 && counts.components == 1 && counts.entries == 4);
+    EXPECT(counts.refused == 0 && counts.place == 0 && counts.beside == 0 && counts.components == 1 && counts.entries == 4);
     EXPECT(components[0] == 0 && components[1] == 4 && components[2] == 0 && components[3] == 77);
     EXPECT(memcmp(entries, placed, sizeof entries) == 0 && work[0] == 0 && work[159] == 0);
-    counts = framed(one_sided, 160, 13);
-    EXPECT(counts.refused == 7 && counts.place == 2 && counts.components == 0 && counts.entries == 0);
-    EXPECT(untouched() && work[0] == 0xFFFFFFFF && work[159] == 0xFFFFFFFF);
     counts = framed(twins, 159, 13);
-    EXPECT(counts.refused == 8 && counts.place == 160 && untouched() && work[0] == 0xFFFFFFFF);
+    EXPECT(counts.refused == 8 && counts.place == 160 && counts.beside == 0 && untouched() && work[0] == 0xFFFFFFFF);
     counts = framed(twins, 160, 11);
-    EXPECT(counts.refused == 10 && counts.place == 4 && untouched() && work[0] == 0 && work[159] == 0);
+    EXPECT(counts.refused == 10 && counts.place == 4 && counts.beside == 0 && untouched() && work[0] == 0 && work[159] == 0);
+}
+
+/* Lists of twins for the square, and what both calls that read twins answer to each. Half-edge 2 runs from corner 2 to 0, 3 from 0 to 2, and
+ * 4 from 2 to 3. */
+static const struct {
+    uint32_t twins[6], refused, place, beside;
+} faults[] = {
+    {{NONE, NONE, 3, 2, NONE, 6}, NGEUNSADOK_TWIN_PAST_END, 5, 6},
+    {{4294967294u, NONE, 3, 2, NONE, NONE}, NGEUNSADOK_TWIN_PAST_END, 0, 4294967294u},
+    {{NONE, NONE, 3, NONE, NONE, NONE}, NGEUNSADOK_TWIN_NOT_BACK, 2, 3},
+    {{NONE, NONE, 3, 2, NONE, 2}, NGEUNSADOK_TWIN_NOT_BACK, 5, 2},
+    {{NONE, NONE, 3, 2, NONE, 0}, NGEUNSADOK_TWIN_NOT_BACK, 5, 0},
+    {{4, 6, 3, 2, NONE, NONE}, NGEUNSADOK_TWIN_NOT_BACK, 0, 4}, /* between other corners too, and the next one is past the end */
+    {{NONE, NONE, 4, NONE, 2, NONE}, NGEUNSADOK_TWIN_ELSEWHERE, 2, 4},
+    {{0, NONE, 3, 2, NONE, 6}, NGEUNSADOK_TWIN_ELSEWHERE, 0, 0}, /* its own twin; the last one is past the end */
+};
+
+static void twin_faults(void) {
+    const uint32_t classes[6] = {1, 1, 2, 2, 1, 1}, rest[6] = {77, 77, 77, 77, 77, 77};
+    size_t k;
+
+    for (k = 0; k < sizeof faults / sizeof *faults; k++) {
+        const uint32_t *const twin = faults[k].twins, refused = faults[k].refused, place = faults[k].place, beside = faults[k].beside;
+        uint32_t quads[6] = {77, 77, 77, 77, 77, 77};
+        ngeunsadok_count count = ngeunsadok_merge_triangle_pairs(x, 4, y, 4, triangles, 6, twin, 6, classes, 6, quads, 6);
+        ngeunsadok_counts counts = framed(twin, 160, 13);
+
+        EXPECT(count.refused == refused && count.place == place && count.beside == beside && count.count == 0);
+        EXPECT(memcmp(quads, rest, sizeof quads) == 0);
+        EXPECT(counts.refused == refused && counts.place == place && counts.beside == beside);
+        EXPECT(counts.components == 0 && counts.entries == 0);
+        EXPECT(untouched() && work[0] == 0xFFFFFFFF && work[159] == 0xFFFFFFFF);
+    }
 }
 
 static void stages(void) {
@@ -97,9 +126,9 @@ static void stages(void) {
     EXPECT(verdict.refused == 0 && memcmp(classes, wanted, sizeof classes) == 0);
 
     ngeunsadok_count count = ngeunsadok_merge_triangle_pairs(x, 4, y, 4, triangles, 6, twins, 6, classes, 6, quads, 3);
-    EXPECT(count.refused == 9 && count.place == 1 && count.count == 0 && quads[0] == 77);
+    EXPECT(count.refused == 9 && count.place == 1 && count.beside == 0 && count.count == 0 && quads[0] == 77);
     count = ngeunsadok_merge_triangle_pairs(x, 4, y, 4, triangles, 6, twins, 6, classes, 6, quads, 6);
-    EXPECT(count.refused == 0 && count.count == 1 && memcmp(quads, square, sizeof quads) == 0);
+    EXPECT(count.refused == 0 && count.beside == 0 && count.count == 1 && memcmp(quads, square, sizeof quads) == 0);
 }
 
 static void filters(void) {
@@ -209,16 +238,19 @@ static void no_room(void) {
 static void words(void) {
     uint32_t k, other;
 
-    for (k = 0; k <= 11; k++)
+    for (k = 0; k <= 13; k++)
         for (other = 0; other < k; other++) EXPECT(strcmp(ngeunsadok_words(k), ngeunsadok_words(other)) != 0);
-    EXPECT(strcmp(ngeunsadok_words(11), ngeunsadok_words(77)) == 0);
-    EXPECT(strstr(ngeunsadok_words(NGEUNSADOK_TWIN), "twin") != NULL);
+    EXPECT(strcmp(ngeunsadok_words(13), ngeunsadok_words(77)) == 0);
+    EXPECT(strstr(ngeunsadok_words(NGEUNSADOK_TWIN_PAST_END), "twin") != NULL);
+    EXPECT(strstr(ngeunsadok_words(NGEUNSADOK_TWIN_NOT_BACK), "twin") != NULL);
+    EXPECT(strstr(ngeunsadok_words(NGEUNSADOK_TWIN_ELSEWHERE), "twin") != NULL);
 }
 
 int main(void) {
     numbers();
     axis();
     frame();
+    twin_faults();
     stages();
     filters();
     labels();

@@ -11,17 +11,17 @@ use oracle::judge::Refusal;
 mod raw;
 
 /// What a call gives where it does not refuse.
-fn told<T>(refused: u32, place: u32, given: T) -> Result<T, Refusal> {
+fn told<T>(refused: u32, place: u32, beside: u32, given: T) -> Result<T, Refusal> {
     if refused == 0 {
         Ok(given)
     } else {
-        Err(Refusal { row: refused, place })
+        Err(Refusal { row: refused, place, beside })
     }
 }
 
 /// The oracle's refusal for the package's.
 fn by_row(refusal: ngeunsadok::Refusal) -> Refusal {
-    Refusal { row: refusal.number(), place: refusal.place() }
+    Refusal { row: refusal.number(), place: refusal.place(), beside: refusal.beside().unwrap_or(0) }
 }
 
 #[inline]
@@ -60,7 +60,7 @@ pub fn merge_triangle_pairs(frame: &Frame, classes: &[u32], quads: &mut [u32]) -
             quads.len(),
         )
     };
-    told(count.refused, count.place, count.count as usize)
+    told(count.refused, count.place, count.beside, count.count as usize)
 }
 
 /// How many quads are kept. Of the frame, the positions and three parameters are read.
@@ -83,7 +83,7 @@ pub fn filter_quads(frame: &Frame, quads: &[u32], work: &mut [u32], kept: &mut [
             kept.len(),
         )
     };
-    told(count.refused, count.place, count.count as usize)
+    told(count.refused, count.place, count.beside, count.count as usize)
 }
 
 /// How many components and entries there are.
@@ -149,5 +149,5 @@ pub fn label_frame(frame: &Frame, [work, components, entries]: [&mut [u32]; 3]) 
 }
 
 fn both(counts: raw::Counts) -> Result<[usize; 2], Refusal> {
-    told(counts.refused, counts.place, [counts.components, counts.entries].map(|count| count as usize))
+    told(counts.refused, counts.place, counts.beside, [counts.components, counts.entries].map(|count| count as usize))
 }

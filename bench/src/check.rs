@@ -10,10 +10,10 @@ fn same(ours: Option<f32>, theirs: Option<f32>) -> bool {
     ours.map(f32::to_bits) == theirs.map(f32::to_bits)
 }
 
-/// The refusals of a single float have row 4 and place 0.
+/// The refusals of a single float have row 4, place 0 and nothing beside it.
 fn known(answer: Result<f32, Refusal>) -> Option<f32> {
     if let Err(refusal) = answer {
-        assert_eq!(refusal, Refusal { row: 4, place: 0 });
+        assert_eq!(refusal, Refusal { row: 4, place: 0, beside: 0 });
     }
     answer.ok()
 }

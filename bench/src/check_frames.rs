@@ -105,3 +105,29 @@ pub fn check(count: u64, seed: u64) -> bool {
     }
     frames.print()
 }
+
+#[cfg(test)]
+mod tests {
+    use super::*;
+    use oracle::frames::full_twins;
+    use oracle::judge::Refusal;
+
+    /// The refusal of a case, if any, by the whole call and by that of the quads: of the archive and of the oracle the same, and so are
+    /// their lists.
+    fn refused(case: &Case) -> Option<Refusal> {
+        let frame = &case.frame;
+        let ours = Told::by(case.lent(), |[work, components, entries]| archive::label_frame(frame, [work, components, entries]));
+        assert_eq!(ours.parted(&expected(case).told), None);
+        let [quads, theirs] = [OURS, RULED].map(|calls| calls.stages(frame).quads);
+        assert_eq!(quads.parted(&theirs), None);
+        assert_eq!(quads.result.err(), ours.result.err());
+        ours.result.err()
+    }
+
+    #[test]
+    fn wrong_twins_of_a_full_mesh() {
+        for (case, refusal) in full_twins() {
+            assert_eq!(refused(&case), refusal);
+        }
+    }
+}

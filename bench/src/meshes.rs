@@ -88,7 +88,7 @@ pub fn unfit(mut frame: Frame) -> Frame {
     frame
 }
 
-/// The last half-edge's twin wrong, and no other: refused by row 7 when all else has been looked at.
+/// The last half-edge's twin wrong, and no other: half-edge 0 does not point back, which row 11 refuses when all else has been looked at.
 pub fn last_twin_wrong(mut frame: Frame) -> Frame {
     let last = frame.half_edges() - 1;
     let old = std::mem::replace(&mut frame.twins[last], 0);

@@ -46,12 +46,12 @@ pub struct Beside<const COUNTS: usize> {
     /// The sums of the counts of accepted cases.
     sums: [usize; COUNTS],
     /// Refusals by row.
-    refused: [u64; 11],
+    refused: [u64; 13],
 }
 
 impl<const COUNTS: usize> Default for Beside<COUNTS> {
     fn default() -> Self {
-        Beside { tally: Tally::default(), sums: [0; COUNTS], refused: [0; 11] }
+        Beside { tally: Tally::default(), sums: [0; COUNTS], refused: [0; 13] }
     }
 }
 
@@ -77,7 +77,7 @@ impl<const COUNTS: usize> Beside<COUNTS> {
     pub fn print(&self, name: &str, counts: &[&str; COUNTS]) -> bool {
         let same = self.tally.print(name);
         let sums: Vec<String> = self.sums.iter().zip(counts).map(|(sum, count)| format!("{sum} {count}")).collect();
-        println!("  accepted: {}; refused by rows 1 to 10: {:?}", sums.join(", "), &self.refused[1..]);
+        println!("  accepted: {}; refused by rows 1 to 12: {:?}", sums.join(", "), &self.refused[1..]);
         same
     }
 }
@@ -103,6 +103,16 @@ mod tests {
         beside.add(&told(0), &told(0), 0, String::new);
         assert!(beside.print("the same", &["counted"]));
         beside.add(&told(0), &told(1), 0, String::new);
+        assert!(!beside.print("not the same", &["counted"]));
+    }
+
+    #[test]
+    fn another_twin_beside_the_place_is_told() {
+        let mut beside = Beside::default();
+        let told = |twin: u32| Told { result: Err(Refusal { row: 12, place: 5, beside: twin }), lists: [vec![7]] };
+        beside.add(&told(2), &told(2), 0, String::new);
+        assert!(beside.print("the same", &["counted"]));
+        beside.add(&told(2), &told(0), 0, String::new);
         assert!(!beside.print("not the same", &["counted"]));
     }
 }

@@ -71,7 +71,7 @@ fn main() {
     print(frame.label(Params::default()));
     print(short_of_room(frame));
 
-    // a twin that runs between other corners
+    // a twin that does not point back
     twins[2] = 4;
     print(Frame { corners, axes, triangles: &triangles, twins: &twins }.label(Params::default()));
 }

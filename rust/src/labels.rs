@@ -95,7 +95,7 @@ pub fn filter_quads(
             kept.len(),
         )
     };
-    told(count.refused, count.place, count.count as usize)
+    told(count.refused, count.place, count.beside, count.count as usize)
 }
 
 /// Writes the components and the entries of all to the fronts of their lists. There are at most as many components as quads, and four
@@ -132,5 +132,5 @@ pub fn label_components(
 /// What the archive tells of a labelling.
 pub(crate) fn written(counts: raw::Counts) -> Result<Counts, Refusal> {
     let given = Counts { components: counts.components as usize, entries: counts.entries as usize };
-    told(counts.refused, counts.place, given)
+    told(counts.refused, counts.place, counts.beside, given)
 }

@@ -8,7 +8,7 @@ use crate::refusal::{told, Refusal};
 pub fn root(x: f32) -> Result<f32, Refusal> {
     // SAFETY: numbers alone cross the boundary.
     let root = unsafe { raw::ngeunsadok_root(x) };
-    told(root.refused, root.place, root.value)
+    told(root.refused, root.place, 0, root.value)
 }
 
 /// The angle of (dx, dy) in radians, by the port's own rule and not by the machine's `atan2`. Refuses a difference that is not finite or
@@ -17,7 +17,7 @@ pub fn root(x: f32) -> Result<f32, Refusal> {
 pub fn angle(dx: f32, dy: f32) -> Result<f32, Refusal> {
     // SAFETY: numbers alone cross the boundary.
     let angle = unsafe { raw::ngeunsadok_angle(dx, dy) };
-    told(angle.refused, angle.place, angle.value)
+    told(angle.refused, angle.place, 0, angle.value)
 }
 
 /// The distance of an angle from an axis, which has no direction; none where it is not finite.
@@ -58,7 +58,7 @@ pub fn axis_cache(axes: [Axis; 2], limit: f32) -> Result<AxisCache, Refusal> {
         )
     };
     let informative = [cache.informative0 == 1, cache.informative1 == 1];
-    told(cache.refused, cache.place, AxisCache { angles: [cache.angle0, cache.angle1], informative })
+    told(cache.refused, cache.place, 0, AxisCache { angles: [cache.angle0, cache.angle1], informative })
 }
 
 /// Whether this thread rounds to nearest and keeps subnormals, as every call asks: see [the crate's page](crate#floating-point). It asks the

@@ -34,6 +34,7 @@ pub struct Verdict {
 pub struct Count {
     pub refused: u32,
     pub place: u32,
+    pub beside: u32,
     pub count: u32,
 }
 
@@ -41,6 +42,7 @@ pub struct Count {
 pub struct Counts {
     pub refused: u32,
     pub place: u32,
+    pub beside: u32,
     pub components: u32,
     pub entries: u32,
 }

@@ -3,10 +3,12 @@
 use std::error::Error;
 use std::fmt;
 
-/// Why a call refused, and where. Each case but the last is a row of the table in `include/ngeunsadok.h`; [`number`](Refusal::number) and
-/// [`place`](Refusal::place) are what the archive gave, and printed, a refusal says in words what is wrong and where.
+/// Why a call refused, and where. Each case but the last is a row of the table in `include/ngeunsadok.h`; [`number`](Refusal::number),
+/// [`place`](Refusal::place) and, for a wrong twin, [`beside`](Refusal::beside) are what the archive gave, and printed, a refusal says in
+/// words what is wrong and where.
 ///
-/// A call gives the first case that applies, in this order, of those that it can give.
+/// A call gives the first case that applies, in this order, of those that it can give. Of the three faults of a twin it gives the first one
+/// of the first half-edge that has any.
 #[derive(Clone, Copy, Debug, PartialEq, Eq)]
 #[non_exhaustive]
 pub enum Refusal {
@@ -23,8 +25,12 @@ pub enum Refusal {
     Named { position: u32 },
     /// 6: this triangle or quad names a corner twice.
     Twice { cell: u32 },
-    /// 7: the twin of this half-edge does not exist, does not point back, or does not run between the same corners the other way.
-    Twin { half_edge: u32 },
+    /// 7: the twin of this half-edge is past the end of the list.
+    TwinPastEnd { half_edge: u32, twin: u32 },
+    /// 11: the twin of this half-edge does not point back: its own twin is not this half-edge.
+    TwinNotBack { half_edge: u32, twin: u32 },
+    /// 12: the twin of this half-edge does not run between the same corners the other way.
+    TwinElsewhere { half_edge: u32, twin: u32 },
     /// 8: the workspace is shorter than this many words.
     Workspace { words: u32 },
     /// 9: the list of components or of quads has less room than this many records.
@@ -32,7 +38,7 @@ pub enum Refusal {
     /// 10: the list of entries has less room than this many.
     Entries { wanted: u32 },
     /// What the archive gave is in no row that this package knows.
-    Other { number: u32, place: u32 },
+    Other { number: u32, place: u32, beside: u32 },
 }
 
 impl Refusal {
@@ -45,7 +51,9 @@ impl Refusal {
             Refusal::Range { .. } => 4,
             Refusal::Named { .. } => 5,
             Refusal::Twice { .. } => 6,
-            Refusal::Twin { .. } => 7,
+            Refusal::TwinPastEnd { .. } => 7,
+            Refusal::TwinNotBack { .. } => 11,
+            Refusal::TwinElsewhere { .. } => 12,
             Refusal::Workspace { .. } => 8,
             Refusal::Records { .. } => 9,
             Refusal::Entries { .. } => 10,
@@ -53,7 +61,7 @@ impl Refusal {
         }
     }
 
-    /// The row's place: what the case carries, or 0 where it carries nothing.
+    /// The row's place: what the case carries, of a half-edge and its twin the half-edge, or 0 where it carries nothing.
     pub const fn place(self) -> u32 {
         match self {
             Refusal::Lengths | Refusal::Limit => 0,
@@ -61,35 +69,49 @@ impl Refusal {
             Refusal::Range { corner } => corner,
             Refusal::Named { position } => position,
             Refusal::Twice { cell } => cell,
-            Refusal::Twin { half_edge } => half_edge,
+            Refusal::TwinPastEnd { half_edge, .. }
+            | Refusal::TwinNotBack { half_edge, .. }
+            | Refusal::TwinElsewhere { half_edge, .. } => half_edge,
             Refusal::Workspace { words } => words,
             Refusal::Records { wanted } | Refusal::Entries { wanted } => wanted,
         }
     }
 
-    /// The refusal with that number and that place.
-    const fn of(number: u32, place: u32) -> Refusal {
-        match (number, place) {
-            (1, 0) => Refusal::Lengths,
-            (2, 0) => Refusal::Limit,
-            (3, 0..=4) => Refusal::Parameter { place },
-            (4, corner) => Refusal::Range { corner },
-            (5, position) => Refusal::Named { position },
-            (6, cell) => Refusal::Twice { cell },
-            (7, half_edge) => Refusal::Twin { half_edge },
-            (8, words) => Refusal::Workspace { words },
-            (9, wanted) => Refusal::Records { wanted },
-            (10, wanted) => Refusal::Entries { wanted },
-            (number, place) => Refusal::Other { number, place },
+    /// The twin's own value beside the place, where a twin is at fault.
+    pub const fn beside(self) -> Option<u32> {
+        match self {
+            Refusal::TwinPastEnd { twin, .. } | Refusal::TwinNotBack { twin, .. } | Refusal::TwinElsewhere { twin, .. } => {
+                Some(twin)
+            }
+            _ => None,
+        }
+    }
+
+    /// The refusal with that number, that place and that word beside it.
+    const fn of(number: u32, place: u32, beside: u32) -> Refusal {
+        match (number, place, beside) {
+            (1, 0, 0) => Refusal::Lengths,
+            (2, 0, 0) => Refusal::Limit,
+            (3, 0..=4, 0) => Refusal::Parameter { place },
+            (4, corner, 0) => Refusal::Range { corner },
+            (5, position, 0) => Refusal::Named { position },
+            (6, cell, 0) => Refusal::Twice { cell },
+            (7, half_edge, twin) => Refusal::TwinPastEnd { half_edge, twin },
+            (11, half_edge, twin) => Refusal::TwinNotBack { half_edge, twin },
+            (12, half_edge, twin) => Refusal::TwinElsewhere { half_edge, twin },
+            (8, words, 0) => Refusal::Workspace { words },
+            (9, wanted, 0) => Refusal::Records { wanted },
+            (10, wanted, 0) => Refusal::Entries { wanted },
+            (number, place, beside) => Refusal::Other { number, place, beside },
         }
     }
 }
 
-/// What a call gives where it does not refuse.
-pub(crate) fn told<T>(refused: u32, place: u32, given: T) -> Result<T, Refusal> {
+/// What a call gives where it does not refuse. An answer that has no word beside the place has 0 for it.
+pub(crate) fn told<T>(refused: u32, place: u32, beside: u32, given: T) -> Result<T, Refusal> {
     match refused {
         0 => Ok(given),
-        number => Err(Refusal::of(number, place)),
+        number => Err(Refusal::of(number, place, beside)),
     }
 }
 
@@ -111,15 +133,21 @@ impl fmt::Display for Refusal {
                 write!(f, "position {position} of a list names a corner that does not exist, or a class above 2")
             }
             Refusal::Twice { cell } => write!(f, "triangle or quad {cell} names a corner twice"),
-            Refusal::Twin { half_edge } => {
-                write!(f, "the twin of half-edge {half_edge} does not exist, point back, or run the other way")
+            Refusal::TwinPastEnd { half_edge, twin } => {
+                write!(f, "the twin {twin} of half-edge {half_edge} is past the end of the list")
+            }
+            Refusal::TwinNotBack { half_edge, twin } => {
+                write!(f, "the twin {twin} of half-edge {half_edge} does not point back")
+            }
+            Refusal::TwinElsewhere { half_edge, twin } => {
+                write!(f, "the twin {twin} of half-edge {half_edge} does not run between the same corners the other way")
             }
             Refusal::Workspace { words } => write!(f, "the workspace is too short; words wanted: {words}"),
             Refusal::Records { wanted } => {
                 write!(f, "the list of components or quads is too short; records wanted: {wanted}")
             }
             Refusal::Entries { wanted } => write!(f, "the list of entries is too short; entries wanted: {wanted}"),
-            Refusal::Other { number, place } => write!(f, "refusal {number} at place {place}"),
+            Refusal::Other { number, place, beside } => write!(f, "refusal {number} at place {place}, beside it {beside}"),
         }
     }
 }
@@ -130,28 +158,58 @@ impl Error for Refusal {}
 mod tests {
     use super::*;
 
-    /// Nothing that the archive can give is lost: not a number without a row, not a place that its row does not have.
+    const PLACES: [u32; 6] = [0, 1, 4, 5, 77, u32::MAX];
+
+    /// The word beside the place that a refusal was made of.
+    fn word_beside(refusal: Refusal) -> u32 {
+        match refusal {
+            Refusal::Other { beside, .. } => beside,
+            known => known.beside().unwrap_or(0),
+        }
+    }
+
+    /// Nothing that the archive can give is lost: not a number without a row, not a place or a word beside it that its row does not have.
     #[test]
     fn every_number_and_place_is_told() {
+        let places = || PLACES.iter().flat_map(|&place| PLACES.map(|beside| (place, beside)));
         let mut words = Vec::new();
-        for number in 1..30 {
-            for place in [0, 1, 4, 5, 77, u32::MAX] {
-                let refusal = told(number, place, ()).expect_err("a refusal");
-                assert_eq!((refusal.number(), refusal.place()), (number, place));
-                words.push(refusal.to_string());
-            }
+        for (number, (place, beside)) in (1..30).flat_map(|number| places().map(move |at| (number, at))) {
+            let refusal = told(number, place, beside, ()).expect_err("a refusal");
+            assert_eq!((refusal.number(), refusal.place(), word_beside(refusal)), (number, place, beside));
+            words.push(refusal.to_string());
         }
-        assert_eq!(told(0, 7, "given"), Ok("given"));
+        assert_eq!(told(0, 7, 7, "given"), Ok("given"));
         words.sort();
         words.dedup();
-        assert_eq!(words.len(), 29 * 6, "two refusals with the same words");
+        assert_eq!(words.len(), 29 * 6 * 6, "two refusals with the same words");
     }
 
     #[test]
     fn a_number_without_a_row_is_other() {
-        assert_eq!(told(11, 3, ()), Err(Refusal::Other { number: 11, place: 3 }));
-        assert_eq!(told(1, 3, ()), Err(Refusal::Other { number: 1, place: 3 }));
-        assert_eq!(told(3, 5, ()), Err(Refusal::Other { number: 3, place: 5 }));
-        assert_eq!(Refusal::Other { number: 11, place: 3 }.to_string(), "refusal 11 at place 3");
+        let other = |number, place, beside| Err(Refusal::Other { number, place, beside });
+        assert_eq!(told(13, 3, 2, ()), other(13, 3, 2));
+        assert_eq!(told(1, 3, 0, ()), other(1, 3, 0));
+        assert_eq!(told(3, 5, 0, ()), other(3, 5, 0));
+        assert_eq!(told(10, 4, 2, ()), other(10, 4, 2));
+        assert_eq!(Refusal::of(13, 3, 2).to_string(), "refusal 13 at place 3, beside it 2");
+    }
+
+    #[test]
+    fn a_fault_of_a_twin_names_both() {
+        let faults = [
+            (7, Refusal::TwinPastEnd { half_edge: 5, twin: 24_576 }, "the twin 24576 of half-edge 5 is past the end of the list"),
+            (11, Refusal::TwinNotBack { half_edge: 5, twin: 0 }, "the twin 0 of half-edge 5 does not point back"),
+            (
+                12,
+                Refusal::TwinElsewhere { half_edge: 5, twin: 2 },
+                "the twin 2 of half-edge 5 does not run between the same corners the other way",
+            ),
+        ];
+        for (number, fault, words) in faults {
+            let twin = fault.beside().expect("a twin");
+            assert_eq!(told(number, 5, twin, ()), Err(fault));
+            assert_eq!(fault.to_string(), words);
+        }
+        assert_eq!(Refusal::of(8, 5, 0).beside(), None);
     }
 }

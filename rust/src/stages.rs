@@ -78,7 +78,7 @@ pub fn classify_all_edges(
             classes.len(),
         )
     };
-    told(verdict.refused, verdict.place, ())
+    told(verdict.refused, verdict.place, 0, ())
 }
 
 /// Writes the quads of the triangle pairs to the front of `quads`, and answers how many. There are at most half as many as triangles.
@@ -101,5 +101,5 @@ pub fn merge_triangle_pairs(corners: Positions, mesh: Mesh, quads: &mut [Quad]) 
             quads.len(),
         )
     };
-    told(count.refused, count.place, count.count as usize)
+    told(count.refused, count.place, count.beside, count.count as usize)
 }

@@ -87,7 +87,7 @@ fn lists_of_their_own() {
     assert_eq!(SQUARE.label(least), Ok(Labels::default()));
     assert_eq!(Frame { twins: &[], ..SQUARE }.label(PARAMS), Err(Refusal::Lengths));
     let twins = [NO_TWIN, NO_TWIN, 3, NO_TWIN, NO_TWIN, NO_TWIN];
-    assert_eq!(Frame { twins: &twins, ..SQUARE }.label(PARAMS), Err(Refusal::Twin { half_edge: 2 }));
+    assert_eq!(Frame { twins: &twins, ..SQUARE }.label(PARAMS), Err(Refusal::TwinNotBack { half_edge: 2, twin: 3 }));
 }
 
 /// A list over its limit is refused for that, and not for the workspace that is made for it.
@@ -102,7 +102,7 @@ fn lists_of_their_own_over_the_limits() {
 }
 
 #[test]
-fn rows_1_to_7_come_before_the_workspace() {
+fn rows_that_come_before_the_workspace() {
     let rooms = [1, 1, 4];
     refused(Frame { twins: &SQUARE.twins[..5], ..SQUARE }, PARAMS, rooms, 1, 0, REST);
     let many = vec![0.0; 8_194];
@@ -119,8 +119,8 @@ fn rows_1_to_7_come_before_the_workspace() {
     refused(Frame { triangles: &[0, 1, 2, 0, 2, 2], ..SQUARE }, PARAMS, rooms, 6, 1, REST);
     let twins = |word| [NO_TWIN, NO_TWIN, word, NO_TWIN, NO_TWIN, NO_TWIN];
     refused(Frame { twins: &twins(6), ..SQUARE }, PARAMS, rooms, 7, 2, REST);
-    refused(Frame { twins: &twins(3), ..SQUARE }, PARAMS, rooms, 7, 2, REST);
-    refused(Frame { twins: &[NO_TWIN, NO_TWIN, 4, NO_TWIN, 2, NO_TWIN], ..SQUARE }, PARAMS, rooms, 7, 2, REST);
+    refused(Frame { twins: &twins(3), ..SQUARE }, PARAMS, rooms, 11, 2, REST);
+    refused(Frame { twins: &[NO_TWIN, NO_TWIN, 4, NO_TWIN, 2, NO_TWIN], ..SQUARE }, PARAMS, rooms, 12, 2, REST);
 }
 
 /// The square so many times, apart from one another; then triangles 0 1 2 without twins, up to so many in all.
