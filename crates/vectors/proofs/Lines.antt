@@ -2,7 +2,7 @@
 -- one to the runs. Assumes nothing.
 use mathlib.Core.Bool.{Bool, true, false, cond}
 use mathlib.Core.Path.{_≡_, refl, sym, ap, _∙_, subst}
-use mathlib.Core.List.{List, [], _∷_}
+use mathlib.Core.List.{List, []}
 use Prim.Native.Nat.{ℕ, zero, suc, _+_, _-_, _≤_, _<_}
 use native.Mathlib.Decide.{ℕ-discrete}
 use native.Mathlib.Omega.{arith}
@@ -11,18 +11,18 @@ use lib.ListN.{length, getD, length-append}
 use Rattle.io.specs.Digits.{Fewest}
 use Rattle.refusal.specs.declared.Refusal.{Refusal}
 use Rattle.refusal.specs.Table.{numberOf, besideOf, hasBeside}
-use Rattle.digits.specs.Digits.{decimalOf, hexOf}
+use Rattle.digits.specs.Digits.{decimalOf}
 use Rattle.digits.proofs.Places.{places, fewest, one-fewest, word-places}
-use Rattle.vectors.specs.Hex.{refusalFront, besideField, refusalLine}
+use Rattle.vectors.specs.Hex.{fieldOf, refusalFront, besideField, refusalLine}
 use Rattle.vectors.specs.inner.Lines.{countLine, countsLine, beginsAt, runsTo, runsOf, Run}
 
 -- ---- a refusal
 
-pub beside-none : (why : Refusal) → hasBeside (numberOf why) ≡ false → 0 ≡ length (besideField why)
-beside-none why e = ap (λ (has : Bool). length (cond has (32 ∷ hexOf (besideOf why)) [])) (sym e)
+pub beside-none : (why : Refusal) → hasBeside (numberOf why) ≡ false → [] ≡ besideField why
+beside-none why e = ap (λ (has : Bool). cond has (fieldOf (besideOf why)) []) (sym e)
 
-pub beside-some : (why : Refusal) → hasBeside (numberOf why) ≡ true → 8 ≡ length (hexOf (besideOf why)) → 9 ≡ length (besideField why)
-beside-some why e h = ap suc h ∙ ap (λ (has : Bool). length (cond has (32 ∷ hexOf (besideOf why)) [])) (sym e)
+pub beside-some : (why : Refusal) → hasBeside (numberOf why) ≡ true → fieldOf (besideOf why) ≡ besideField why
+beside-some why e = ap (λ (has : Bool). cond has (fieldOf (besideOf why)) []) (sym e)
 
 pub refusal-length : (why : Refusal) {j k : ℕ} → j ≡ length (refusalFront why) → k ≡ length (besideField why) → j + k + 1 ≡ length (refusalLine why)
 unfolding refusalLine

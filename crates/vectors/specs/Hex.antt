@@ -28,9 +28,13 @@ unfoldable pub refusalFront : Refusal → List ℕ
 refusalFront why =
     114 ∷ 101 ∷ 102 ∷ 117 ∷ 115 ∷ 101 ∷ 100 ∷ 32 ∷ (hexOf (numberOf why) ++ (32 ∷ hexOf (placeOf why)))
 
+-- a blank and a word
+abbrev pub fieldOf : ℕ → List ℕ
+fieldOf word = 32 ∷ hexOf word
+
 -- what stands beside the place, where the row has that
 abbrev pub besideField : Refusal → List ℕ
-besideField why = cond (hasBeside (numberOf why)) (32 ∷ hexOf (besideOf why)) []
+besideField why = cond (hasBeside (numberOf why)) (fieldOf (besideOf why)) []
 
 unfoldable pub refusalLine : Refusal → List ℕ
 refusalLine why = refusalFront why ++ (besideField why ++ (10 ∷ []))

@@ -4,7 +4,7 @@ ghost use mathlib.Core.Path.{_≡_};
 ghost use Prim.Native.Nat.{_+_, _<_, _≤_};
 ghost use lib.ListN.{length};
 ghost use Rattle.digits.specs.Digits.{digitOf, hexOf};
-ghost use Rattle.vectors.specs.Hex.{valueOf, fourAt, wordAt, refusalFront};
+ghost use Rattle.vectors.specs.Hex.{valueOf, fourAt, wordAt, fieldOf, refusalFront};
 use refusal::Refusal;
 
 pub mod inner;
@@ -73,6 +73,24 @@ pub fn hex(word: u32) -> [u8; 8]
         digit(word / 0x100 % 16),
         digit(word / 0x10 % 16),
         digit(word % 16),
+    ]
+}
+
+// A blank and the eight digits of a word.
+pub(crate) fn field(word: u32) -> [u8; 9]
+    ensures { λ r. ⌜ (r ≡ fieldOf word) × (9 ≡ length r) ⌝ }
+{
+    let digits = hex(word);
+    [
+        b' ',
+        digits[0],
+        digits[1],
+        digits[2],
+        digits[3],
+        digits[4],
+        digits[5],
+        digits[6],
+        digits[7],
     ]
 }
 

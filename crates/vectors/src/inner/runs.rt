@@ -13,10 +13,9 @@ fn write_beside(why: Refusal) -> usize
     ensures { λ r. ⌜ (r ≡ length (besideField why)) × (r ≤ 9) ⌝ }
 {
     if refusal::has_beside(refusal::number(why)) {
-        let digits = crate::hex(refusal::beside(why));
-        io::write_all(1, b" ");
-        io::write_all(1, &digits);
-        return 9;
+        let field = crate::field(refusal::beside(why));
+        io::write_all(1, &field);
+        return field.len();
     }
     0
 }
