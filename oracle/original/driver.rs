@@ -17,10 +17,17 @@ fn positions(frame: &Frame) -> Vec<Point2<f32>> {
     points.map(|(&x, &y)| Point2 { x, y }).collect()
 }
 
+/// The spread that the original is given. It has rule 1 alone; by rule 2 a missing one is given as
+/// NaN, which is not finite and so not informative.
+fn sigma(frame: &Frame, slot: usize) -> Option<f32> {
+    let missing = (frame.params.spread_rule == 2).then_some(f32::NAN);
+    frame.spread(slot).or(missing)
+}
+
 fn features(frame: &Frame) -> Vec<OrientedFeature<2>> {
     let axis = |slot: usize| LocalAxis {
         angle_rad: frame.angles[slot],
-        sigma_rad: frame.spread(slot),
+        sigma_rad: sigma(frame, slot),
     };
     (0..frame.corners())
         .map(|c| OrientedFeature { axes: [axis(2 * c), axis(2 * c + 1)] })

@@ -91,8 +91,8 @@ abbrev pub FrameTold : (i : frame.Input) (work components entries : List ℕ) �
 FrameTold i work components entries = CountsTold (frame-call.Allowed i work components entries)
 
 -- the parameters of each call
-abbrev pub edgesBy : (tolerance limit : Float) → EdgeParams
-edgesBy tolerance limit = record { tolerance = tolerance; spread = record { limit = limit } }
+abbrev pub edgesBy : (tolerance limit : Float) (rule : ℕ) → EdgeParams
+edgesBy tolerance limit rule = record { tolerance = tolerance; spread = record { number = rule; limit = limit } }
 
 abbrev pub filtersBy : (ratio least greatest : Float) → FilterParams
 filtersBy ratio least greatest = record { ratio = ratio; least = least; greatest = greatest }
@@ -100,6 +100,6 @@ filtersBy ratio least greatest = record { ratio = ratio; least = least; greatest
 abbrev pub labelsBy : (quads corners : ℕ) → LabelParams
 labelsBy quads corners = record { quads = quads; corners = corners }
 
-abbrev pub paramsBy : (tolerance ratio least greatest limit : Float) (quads corners : ℕ) → Params
-paramsBy tolerance ratio least greatest limit quads corners =
-    record { edges = edgesBy tolerance limit; filters = filtersBy ratio least greatest; labels = labelsBy quads corners }
+abbrev pub paramsBy : (tolerance ratio least greatest limit : Float) (quads corners rule : ℕ) → Params
+paramsBy tolerance ratio least greatest limit quads corners rule =
+    record { edges = edgesBy tolerance limit rule; filters = filtersBy ratio least greatest; labels = labelsBy quads corners }

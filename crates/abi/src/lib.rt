@@ -107,7 +107,7 @@ pub extern "C" fn ngeunsadok_distance(angle: f32, axis: f32) -> Apart
     tell_distance(measure::axis_distance(angle, axis))
 }
 
-// A mark of 0 says that the spread beside it is missing.
+// A mark of 0 says that the spread beside it is missing; rule is the number of the spread rule.
 #[no_mangle]
 pub extern "C" fn ngeunsadok_axis_cache(
     angle0: f32,
@@ -117,12 +117,17 @@ pub extern "C" fn ngeunsadok_axis_cache(
     marked1: u32,
     spread1: f32,
     limit: f32,
+    rule: u32,
 ) -> Cache
-    ensures { λ r. ⌜ r ≡ cacheFrom (cachedTold (cacheCall (record { limit = limit }) angle0 (spreadFrom marked0 spread0) angle1 (spreadFrom marked1 spread1))) ⌝ }
+    ensures { λ r. ⌜ r ≡ cacheFrom (cachedTold (cacheCall (record { number = rule; limit = limit }) angle0 (spreadFrom marked0 spread0) angle1 (spreadFrom marked1 spread1))) ⌝ }
 {
     let first = spread_from(marked0, spread0);
     let second = spread_from(marked1, spread1);
-    tell_cache(axis::axis_cache(angle0, first, angle1, second, SpreadRule { limit }))
+    let spread = SpreadRule {
+        number: rule,
+        limit,
+    };
+    tell_cache(axis::axis_cache(angle0, first, angle1, second, spread))
 }
 
 #[no_mangle]
@@ -135,12 +140,13 @@ pub extern "C" fn ngeunsadok_classify_all_edges(
     triangles: &[u32],
     tolerance: f32,
     limit: f32,
+    rule: u32,
     classes: &mut [u32],
 ) -> Verdict
     ensures { λ r. ⌜ _≡_ {A = ClassesTold} (record { told = r; classes = now (classes .exit) })
-        (classesTold (edges.callOf (classing.given (x .entry) (y .entry) (angles .entry) (marks .entry) (spreads .entry) (triangles .entry) (edgesBy tolerance limit)) (now (classes .entry)))) ⌝ }
+        (classesTold (edges.callOf (classing.given (x .entry) (y .entry) (angles .entry) (marks .entry) (spreads .entry) (triangles .entry) (edgesBy tolerance limit rule)) (now (classes .entry)))) ⌝ }
 {
-    let params = edge_params(tolerance, limit);
+    let params = edge_params(tolerance, limit, rule);
     tell_classified(classify::classify_all_edges(
         x,
         y,
@@ -219,15 +225,16 @@ pub extern "C" fn ngeunsadok_label_frame(
     limit: f32,
     leastquads: u32,
     leastcorners: u32,
+    rule: u32,
     work: &mut [u32],
     components: &mut [u32],
     entries: &mut [u32],
 ) -> Counts
-    ensures { λ r. ⌜ FrameTold (stages.given (x .entry) (y .entry) (angles .entry) (marks .entry) (spreads .entry) (triangles .entry) (twins .entry) (paramsBy tolerance ratio least greatest limit leastquads leastcorners))
+    ensures { λ r. ⌜ FrameTold (stages.given (x .entry) (y .entry) (angles .entry) (marks .entry) (spreads .entry) (triangles .entry) (twins .entry) (paramsBy tolerance ratio least greatest limit leastquads leastcorners rule))
         (now (work .entry)) (now (components .entry)) (now (entries .entry))
         r (now (work .exit)) (now (components .exit)) (now (entries .exit)) ⌝ }
 {
-    let edges = edge_params(tolerance, limit);
+    let edges = edge_params(tolerance, limit, rule);
     let filters = filter_params(ratio, least, greatest);
     let labels = label_params(leastquads, leastcorners);
     let params = frame_params(edges, filters, labels);

@@ -7,12 +7,15 @@ use fates::LabelParams;
 use filter::FilterParams;
 use frame::Params;
 
-pub(crate) fn edge_params(tolerance: f32, limit: f32) -> EdgeParams
-    ensures { λ r. ⌜ r ≡ edgesBy tolerance limit ⌝ }
+pub(crate) fn edge_params(tolerance: f32, limit: f32, rule: u32) -> EdgeParams
+    ensures { λ r. ⌜ r ≡ edgesBy tolerance limit rule ⌝ }
 {
     EdgeParams {
         tolerance,
-        spread: SpreadRule { limit },
+        spread: SpreadRule {
+            number: rule,
+            limit,
+        },
     }
 }
 

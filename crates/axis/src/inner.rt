@@ -1,17 +1,32 @@
-// The axis cache without a refusal, of values and from lent lists, for the crates above.
+// The row of the rule's number, and the axis cache without a refusal, of values and from lent lists, for the crates above.
 ghost use mathlib.Core.Path.{_≡_};
 ghost use Prim.Native.Nat.{_+_, _*_, _<_};
 ghost use lib.ListN.{length};
-ghost use Rattle.axis.specs.Cache.{informativeOf, spreadFrom, cacheOf, cacheAt};
+ghost use Rattle.axis.specs.Cache.{ruleRow, informativeOf, spreadFrom, cacheOf, cacheAt};
 use crate::AxisCache;
 use crate::Spread;
 use crate::SpreadRule;
+use refusal::Gate;
+use refusal::Refusal;
+
+// Row 18: there are the rules 1 and 2.
+pub fn rule_row(rule: SpreadRule) -> Gate
+    ensures { λ r. ⌜ r ≡ ruleRow rule ⌝ }
+{
+    if rule.number == 1 {
+        return Gate::Open;
+    }
+    if rule.number == 2 {
+        return Gate::Open;
+    }
+    Gate::Shut(Refusal::NoSuchRule)
+}
 
 fn is_informative(spread: Spread, rule: SpreadRule) -> bool
     ensures { λ r. ⌜ r ≡ informativeOf rule spread ⌝ }
 {
     match spread {
-        Spread::Missing => true,
+        Spread::Missing => rule.number == 1,
         Spread::Known(x) => measure::inner::is_finite(x) && x < rule.limit,
     }
 }

@@ -1,8 +1,9 @@
-// The axis cache of a corner: its two axis angles and whether each is informative, by document 01's rule on spreads.
+// The axis cache of a corner: its two axis angles and whether each is informative, by the spread rule.
 ghost use mathlib.Core.Path.{_≡_};
 ghost use Rattle.axis.specs.Cache.{cacheCall};
 use refusal::Gate;
 use refusal::Refusal;
+use refusal::inner::in_order;
 
 pub mod inner;
 
@@ -12,8 +13,9 @@ pub enum Spread {
     Known(f32),
 }
 
-// What makes a spread informative.
+// What makes a spread informative: by which rule, 1 or 2, and below which limit.
 pub struct SpreadRule {
+    pub number: u32,
     pub limit: f32,
 }
 
@@ -40,7 +42,8 @@ pub fn axis_cache(
 ) -> Cached
     ensures { λ r. ⌜ r ≡ cacheCall rule angle0 spread0 angle1 spread1 ⌝ }
 {
-    let gate = measure::inner::parameter_row(rule.limit, 4);
+    let limit = measure::inner::parameter_row(rule.limit, 4);
+    let gate = in_order(limit, inner::rule_row(rule));
     match gate {
         Gate::Open => Cached::Known(inner::cache_of(angle0, spread0, angle1, spread1, rule)),
         Gate::Shut(why) => Cached::Refused(why),

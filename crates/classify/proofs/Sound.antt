@@ -10,6 +10,7 @@ use Rattle.refusal.proofs.Rows.{open-both}
 use Rattle.mesh.specs.Positions.{positionsRow}
 use Rattle.mesh.specs.Cells.{cornersRow, twiceRow}
 use Rattle.measure.specs.Parameter.{parameterRow}
+use Rattle.axis.specs.Cache.{ruleRow}
 use Rattle.mesh.proofs.Open.{paired-open, limit-open, positions-open, corners-open}
 use Rattle.classify.specs.declared.EdgeParams.{EdgeParams}
 use Rattle.classify.specs.Classes.{Input}
@@ -56,8 +57,9 @@ unfolding valuesGate
 values-open xs ys triangles p e =
     let v1 = open-both (parameterRow (p .tolerance) 0) _ e in
     let v2 = open-both (parameterRow (p .spread .limit) 4) _ (v1 .1) in
-    let v3 = open-both (positionsRow xs ys) (cornersRow (length xs) triangles then twiceRow 3 triangles) (v2 .1) in
-    (v3 .0, open-both (cornersRow (length xs) triangles) (twiceRow 3 triangles) (v3 .1) .0)
+    let v3 = open-both (ruleRow (p .spread)) _ (v2 .1) in
+    let v4 = open-both (positionsRow xs ys) (cornersRow (length xs) triangles then twiceRow 3 triangles) (v3 .1) in
+    (v4 .0, open-both (cornersRow (length xs) triangles) (twiceRow 3 triangles) (v4 .1) .0)
 
 -- ---- all rows
 

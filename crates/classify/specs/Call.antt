@@ -1,4 +1,4 @@
--- The call `classify_all_edges` whole: rows 1 to 6 in order, or every half-edge's class in the class list.
+-- The call `classify_all_edges` whole: rows 1 to 6 in order, 18 behind 3, or every half-edge's class in the class list.
 use mathlib.Core.List.{List}
 use Prim.Native.Nat.{ℕ}
 use lib.Ieee.{Float}
@@ -8,6 +8,7 @@ use Rattle.refusal.specs.declared.Gate.the-variants.{Open, Shut}
 use Rattle.refusal.specs.InNumbers.{InNumbers, gives, refuses}
 use Rattle.refusal.specs.Rows.{_then_}
 use Rattle.measure.specs.Parameter.{parameterRow}
+use Rattle.axis.specs.Cache.{ruleRow}
 use Rattle.mesh.specs.Lists.{pairedRow, doubledRow, wholeRow, limitRow, mostCorners, mostHalfEdges}
 use Rattle.mesh.specs.Positions.{positionsRow}
 use Rattle.mesh.specs.Cells.{cornersRow, twiceRow}
@@ -22,10 +23,10 @@ lengthsGate x y angles marks spreads triangles classes =
     pairedRow y x then doubledRow angles x then doubledRow marks x then doubledRow spreads x then wholeRow triangles 3 then pairedRow classes triangles
     then limitRow x mostCorners then limitRow triangles mostHalfEdges
 
--- rows 3 to 6 look at what the lists hold
+-- rows 3, 18 and 4 to 6 look at the parameters and at what the lists hold
 unfoldable pub valuesGate : List Float → List Float → List ℕ → EdgeParams → Gate
 valuesGate xs ys triangles params =
-    parameterRow (params .tolerance) 0 then parameterRow (params .spread .limit) 4
+    parameterRow (params .tolerance) 0 then parameterRow (params .spread .limit) 4 then ruleRow (params .spread)
     then positionsRow xs ys then cornersRow (length xs) triangles then twiceRow 3 triangles
 
 -- for a class list of that length

@@ -1,4 +1,4 @@
-// The rows of the call in order: those on lengths first, then those on what the lists hold.
+// The rows of the call in order: those on lengths first, then those on the parameters and on what the lists hold.
 ghost use mathlib.Core.Path.{_≡_};
 ghost use Prim.Native.Nat.{_≤_};
 ghost use lib.ListN.{length};
@@ -6,6 +6,7 @@ ghost use Rattle.mesh.specs.Lists.{mostCorners, mostHalfEdges};
 ghost use Rattle.classify.specs.Classes.{given};
 ghost use Rattle.classify.specs.Call.{lengthsGate, valuesGate, gateOf};
 use crate::EdgeParams;
+use axis::inner::rule_row;
 use measure::inner::parameter_row;
 use mesh::inner::cells::corners_row;
 use mesh::inner::cells::twice_row;
@@ -46,7 +47,7 @@ fn lengths_gate(
     in_order(paired_row(y, x), in_order(doubled_row(angles, x), slots))
 }
 
-// Rows 3 to 6, for lists that rows 1 and 2 let through.
+// Rows 3, 18 and 4 to 6, for lists that rows 1 and 2 let through.
 fn values_gate(x: &[f32], y: &[f32], triangles: &[u32], params: EdgeParams) -> Gate
     requires { ⌜ (length (now y) ≡ length (now x)) × (length (now x) ≤ mostCorners) × (length (now triangles) ≤ mostHalfEdges) ⌝ }
     ensures { λ r. ⌜ r ≡ valuesGate (now (x .entry)) (now (y .entry)) (now (triangles .entry)) params ⌝ }
@@ -54,9 +55,10 @@ fn values_gate(x: &[f32], y: &[f32], triangles: &[u32], params: EdgeParams) -> G
     let rule = params.spread;
     let corners = in_order(corners_row(triangles, x.len()), twice_row(triangles, 3));
     let places = in_order(positions_row(x, y), corners);
+    let ruled = in_order(rule_row(rule), places);
     in_order(
         parameter_row(params.tolerance, 0),
-        in_order(parameter_row(rule.limit, 4), places),
+        in_order(parameter_row(rule.limit, 4), ruled),
     )
 }
 

@@ -91,15 +91,18 @@ one-hex end v w r s a b is =
     let o = hex-run run v e r a other (sym (ap (λ (l : List ℕ). l ++ (e ∷ s)) (hex-numeral w)) ∙ sym is) in
     (o .1, ap tail (sym (o .2) ∙ drop-at (numeral 16 8 w) (e ∷ s) 8 (numeral-length 16 8 w)))
 
-pub one-decimal : (end : End) → Marked decimalOf (endByte end)
-one-decimal end v w r s a b is =
+-- a decimal form before either end is the run there, so that the ends are one too
+pub decimal-ends : (d end : End) (v w : ℕ) (r s : List ℕ) → v < words → w < words → decimalOf v ++ (endByte d ∷ r) ≡ decimalOf w ++ (endByte end ∷ s) → (v ≡ w) × (endByte d ∷ r ≡ endByte end ∷ s)
+decimal-ends d end v w r s a b is =
     let e = endByte end in
-    let other = no-digit 10 e (end-low end) in
     let f = fewest w in
-    let run = run-of 10 10 (places w) w e s (f .1) (word-places w b) other in
-    let o = decimal-run run v e r a other (sym (ap (λ (l : List ℕ). l ++ (e ∷ s)) (decimal-numeral w (places w) f)) ∙ sym is) in
+    let run = run-of 10 10 (places w) w e s (f .1) (word-places w b) (no-digit 10 e (end-low end)) in
+    let o = decimal-run run v (endByte d) r a (no-digit 10 (endByte d) (end-low d)) (sym (ap (λ (l : List ℕ). l ++ (e ∷ s)) (decimal-numeral w (places w) f)) ∙ sym is) in
     let z : 0 + places w ≡ places w = omega arith in
-    (o .1, ap tail (sym (o .2) ∙ ap (λ (n : ℕ). drop n (numeral 10 (places w) w ++ (e ∷ s))) z ∙ drop-at (numeral 10 (places w) w) (e ∷ s) (places w) (numeral-length 10 (places w) w)))
+    (o .1, sym (o .2) ∙ ap (λ (n : ℕ). drop n (numeral 10 (places w) w ++ (e ∷ s))) z ∙ drop-at (numeral 10 (places w) w) (e ∷ s) (places w) (numeral-length 10 (places w) w))
+
+pub one-decimal : (end : End) → Marked decimalOf (endByte end)
+one-decimal end v w r s a b is = let o = decimal-ends end end v w r s a b is in (o .0, ap tail (o .1))
 
 -- a form begins with a digit
 pub hex-first : (v : ℕ) (rest : List ℕ) → NoDigit 16 (getD (hexOf v ++ rest) 0 0) → ⊥

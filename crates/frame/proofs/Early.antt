@@ -1,12 +1,15 @@
 -- The rows of a frame before the ninth refuse with other numbers than 9 and 10. Assumes nothing.
 use mathlib.Core.Path.{_≡_, refl}
-use mathlib.Core.Bool.{Bool, true, false, cond}
+use mathlib.Core.Bool.{Bool, true, false, cond, not, _||_}
 use mathlib.Core.List.{List}
 use Prim.Native.Nat.{ℕ, _*_, _%_}
+use lib.Dec.{eqb}
 use lib.Ieee.{Float, isNan}
 use lib.ListN.{length, getD}
-use Rattle.refusal.specs.declared.Refusal.the-variants.{ParameterNan, OutOfRange, TwinPastEnd, TwinNotBack, TwinElsewhere}
+use Rattle.refusal.specs.declared.Refusal.the-variants.{ParameterNan, NoSuchRule, OutOfRange, TwinPastEnd, TwinNotBack, TwinElsewhere}
 use Rattle.measure.specs.Parameter.{parameterRow}
+use Rattle.axis.specs.declared.SpreadRule.{SpreadRule}
+use Rattle.axis.specs.Cache.{ruleRow}
 use Rattle.mesh.specs.Lists.{mostCorners, mostHalfEdges, frameWords}
 use Rattle.mesh.specs.Positions.{misplaced, positionsRow}
 use Rattle.mesh.specs.Twins.{pastEnd, pointsBack, twinOffends, twinFault, twinsRow}
@@ -17,6 +20,9 @@ use Rattle.frame.specs.Call.{lengthsGate, paramsGate, valuesGate, judgeO
 
 early-parameter : (parameter : Float) (number : ℕ) → Early (parameterRow parameter number)
 early-parameter parameter number = early-if (isNan parameter) (ParameterNan number) refl
+
+early-rule : (rule : SpreadRule) → Early (ruleRow rule)
+early-rule rule = early-if (not (eqb (rule .number) 1 || eqb (rule .number) 2)) NoSuchRule refl
 
 early-positions : (xs ys : List Float) → Early (positionsRow xs ys)
 unfolding positionsRow
@@ -49,7 +55,8 @@ early-params p =
     early-then _ _ (early-parameter (p .edges .tolerance) 0)
     (early-then _ _ (early-parameter (p .filters .ratio) 1)
     (early-then _ _ (early-parameter (p .filters .least) 2)
-    (early-then _ _ (early-parameter (p .filters .greatest) 3) (early-parameter (p .edges .spread .limit) 4))))
+    (early-then _ _ (early-parameter (p .filters .greatest) 3)
+    (early-then _ _ (early-parameter (p .edges .spread .limit) 4) (early-rule (p .edges .spread))))))
 
 early-values : (xs ys : List Float) (triangles twins : List ℕ) → Early (valuesGate xs ys triangles twins)
 unfolding valuesGate

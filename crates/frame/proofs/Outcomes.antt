@@ -1,4 +1,4 @@
--- The call's outcomes: refused by rows 1 to 7, refused by row 8, or what follows the labelling of the quads kept. Assumes nothing.
+-- The call's outcomes: refused by rows 1 to 7 or 18, refused by row 8, or what follows the labelling of the quads kept. Assumes nothing.
 use mathlib.Core.Path.{_≡_, sym, _∙_, subst}
 use mathlib.Core.List.{List}
 use Prim.Native.Nat.{ℕ, _+_, _*_, _≤_, max}
@@ -28,7 +28,7 @@ use Rattle.frame.specs.inner.Steps.{Fated}
 use Rattle.frame.proofs.Sound.{entry-open, classing-sound}
 use Rattle.frame.proofs.Labelling.{kept-few, kept-room}
 
--- the gates of rows 1 to 7 and of row 8, one after the other
+-- the gates of rows 1 to 7, with 18, and of row 8, one after the other
 entry-after : (i : Input) (words : ℕ) (g h : Gate) → g ≡ judgeOf i → g ≡ Open → h ≡ workRow words (frameWords (length (i .triangles)) (length (i .xs))) → entryGate i words ≡ h
 unfolding entryGate
 entry-after i words g h e f r = rw (← e, f, r)

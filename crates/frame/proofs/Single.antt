@@ -26,5 +26,7 @@ single =
       no-room = labelled refl _ of-the-frame;
       no-entries = labelled refl _ of-the-frame;
       nan-refused = refused _ refl;
+      limit-first = refused _ refl;
+      rule-refused = refused _ refl;
       twin-refused = refused _ refl;
     }

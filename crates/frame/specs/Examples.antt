@@ -51,7 +51,7 @@ framed tolerance twins =
       triangles = 0 ∷ 1 ∷ 2 ∷ 0 ∷ 2 ∷ 3 ∷ [];
       twins = twins;
       params = record {
-        edges = record { tolerance = tolerance; spread = record { limit = bits 0x3F800000 } };
+        edges = record { tolerance = tolerance; spread = record { number = 1; limit = bits 0x3F800000 } };
         filters = record { ratio = bits 0x3FC00000; least = bits 0x3F000000; greatest = bits 0x40000000 };
         labels = record { quads = 1; corners = 4 };
       };

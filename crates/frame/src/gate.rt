@@ -1,10 +1,11 @@
-// Rows 1 to 7 of a frame, by what they look at: lengths, parameters, and what the lists hold.
+// Rows 1 to 7 of a frame, with 18, by what they look at: lengths, parameters, and what the lists hold.
 ghost use mathlib.Core.Path.{_≡_};
 ghost use Prim.Native.Nat.{_%_, _≤_};
 ghost use lib.ListN.{length};
 ghost use Rattle.mesh.specs.Lists.{mostCorners, mostHalfEdges};
 ghost use Rattle.frame.specs.Call.{lengthsGate, paramsGate, valuesGate};
 use crate::Params;
+use axis::inner::rule_row;
 use measure::inner::parameter_row;
 use mesh::inner::cells::corners_row;
 use mesh::inner::cells::twice_row;
@@ -46,7 +47,7 @@ pub(crate) fn lengths_gate(
     in_order(paired_row(y, x), in_order(doubled_row(angles, x), slots))
 }
 
-// Row 3.
+// Rows 3 and 18.
 pub(crate) fn params_gate(params: Params) -> Gate
     ensures { λ r. ⌜ r ≡ paramsGate params ⌝ }
 {
@@ -55,7 +56,7 @@ pub(crate) fn params_gate(params: Params) -> Gate
     let filters = params.filters;
     let last = in_order(
         parameter_row(filters.greatest, 3),
-        parameter_row(rule.limit, 4),
+        in_order(parameter_row(rule.limit, 4), rule_row(rule)),
     );
     let sizes = in_order(
         parameter_row(filters.ratio, 1),

@@ -29,7 +29,7 @@ pub struct FrameCounts {
     pub totals: Totals,
 }
 
-// Rows 1 to 7.
+// Rows 1 to 7, with 18.
 pub fn judge(
     x: &[f32],
     y: &[f32],

@@ -1,11 +1,13 @@
 -- Document 01's text has document 01's answer, by the definitions: its lines are read as its frame, which the rows let through, and whose
--- one component is printed byte by byte; and lines of refusals, with a twin and without. Assumes nothing.
+-- one component is printed byte by byte; and lines of refusals, with a twin and without. A P line alone that
+-- gives rule 3 is refused. Assumes nothing.
 use mathlib.Core.Path.{_≡_, refl, subst}
 use mathlib.Core.List.{List, [], _∷_, _++_, flatMap}
 use Prim.Native.Nat.{ℕ}
+use native.Mathlib.Omega.{arith}
 use lib.Ieee.{ofBits, round, le, isNan}
-use Rattle.refusal.specs.declared.Gate.the-variants.{Open}
-use Rattle.refusal.specs.declared.Refusal.the-variants.{OutOfRange, TwinNotBack, TwinElsewhere}
+use Rattle.refusal.specs.declared.Gate.the-variants.{Open, Shut}
+use Rattle.refusal.specs.declared.Refusal.the-variants.{NoSuchRule, OutOfRange, TwinNotBack, TwinElsewhere}
 use Rattle.refusal.specs.First.{firstOf}
 use Rattle.refusal.specs.Rows.{refuseFirst}
 use Rattle.measure.specs.Float.{within}
@@ -19,18 +21,18 @@ use Rattle.digits.specs.Digits.{placesIn, decimalOf}
 use Rattle.frame.specs.Call.{lengthsGate, paramsGate, valuesGate, judgeOf}
 use Rattle.frame.specs.Examples.{program-frame, printed}
 use Rattle.frame.proofs.Examples.{of-the-frame}
-use Rattle.gridtext.specs.Lines.{spaced}
-use Rattle.gridtext.specs.Lists.{twinWord, wordOf, markOf, paramsOf, inputOf}
+use Rattle.gridtext.specs.Lines.{Optional, spaced}
+use Rattle.gridtext.specs.Lists.{twinWord, wordOf, markOf, ruleOf, paramsOf, inputOf}
 use Rattle.gridtext.specs.Text.{Frame}
 use Rattle.gridtext.specs.Answer.{numbersLine, refusedText, entryLine, entryLines, componentLines, componentsText}
 use Rattle.gridtext.specs.Gridlabel.{Answers}
-use Rattle.gridtext.proofs.Example.{lastFed, cornerAt, firstTriangle, secondTriangle, frameWith, document-text}
+use Rattle.gridtext.proofs.Example.{pLine, lastFed, cornerAt, firstTriangle, secondTriangle, paramsWith, frameWith, alone, document-text, rule-given}
 
 abbrev frame : Frame
 frame = frameWith (firstTriangle ∷ secondTriangle ∷ [])
 
 lists-are : inputOf frame ≡ program-frame
-unfolding inputOf paramsOf markOf wordOf twinWord frameWith cornerAt firstTriangle secondTriangle flatMap
+unfolding inputOf paramsOf ruleOf markOf wordOf twinWord frameWith paramsWith cornerAt firstTriangle secondTriangle flatMap
 lists-are = refl
 
 let-through : judgeOf program-frame ≡ Open
@@ -64,3 +66,16 @@ own-twin = refl
 pub out-of-range : refusedText (OutOfRange 0) ≡ 114 ∷ 101 ∷ 102 ∷ 117 ∷ 115 ∷ 101 ∷ 100 ∷ 32 ∷ 52 ∷ 32 ∷ 48 ∷ 10 ∷ []
 unfolding refusedText numbersLine spaced decimalOf placesIn
 out-of-range = refl
+
+no-third : judgeOf (inputOf (alone (Optional.given 3))) ≡ Shut NoSuchRule
+unfolding ofBits isNan lengthsGate paramsGate valuesGate judgeOf inputOf paramsOf ruleOf paramsWith flatMap
+no-third = refl
+
+refused-eighteen : refusedText NoSuchRule ≡ 114 ∷ 101 ∷ 102 ∷ 117 ∷ 115 ∷ 101 ∷ 100 ∷ 32 ∷ 49 ∷ 56 ∷ 32 ∷ 48 ∷ 10 ∷ []
+unfolding refusedText numbersLine spaced decimalOf placesIn
+refused-eighteen = refl
+
+-- "P .. 1 4 3" is answered by "refused 18 0"
+pub third-rule : Answers (pLine ++ (32 ∷ 51 ∷ 10 ∷ [])) (114 ∷ 101 ∷ 102 ∷ 117 ∷ 115 ∷ 101 ∷ 100 ∷ 32 ∷ 49 ∷ 56 ∷ 32 ∷ 48 ∷ 10 ∷ [])
+unfolding decimalOf placesIn
+third-rule = subst (Answers (pLine ++ (32 ∷ 51 ∷ 10 ∷ []))) refused-eighteen (Answers.refused (alone (Optional.given 3)) (rule-given 3 (omega arith)) NoSuchRule no-third)

@@ -9,14 +9,14 @@ use lib.Seq.{length-take-le, take-append-le, take-at}
 use Rattle.cells.specs.Listed.{In}
 use Rattle.cells.proofs.Tests.{in-last}
 use Rattle.digits.specs.Digits.{hexOf, decimalOf}
-use Rattle.gridtext.specs.Lines.{Field, Line, fieldOf, spaced, lineOf, printed, IsWord, WordField, LineWords}
+use Rattle.gridtext.specs.Lines.{Field, Optional, Line, fieldOf, optionalOf, spaced, lineOf, printed, IsWord, WordField, WordOptional, LineWords}
 use Rattle.gridtext.specs.Text.{Frame, linesOf, Fitting, Reads, Bad}
 use Rattle.gridtext.specs.Gridlabel.{Answers, mostText}
 use Rattle.gridtext.proofs.Bounds.{digits-most}
 use Rattle.gridtext.proofs.OneLine.{Words}
 use Rattle.gridtext.proofs.OneReading.{fitting-words}
 
--- ---- a line takes at most 78 bytes: a letter, and seven fields of ten with a blank before each
+-- ---- a line takes at most 89 bytes: a letter, and eight fields of ten with a blank before each
 
 abbrev Few : List ℕ → Type 0
 Few field = length field ≤ 10
@@ -37,22 +37,31 @@ no-field : length (spaced []) ≤ 0
 unfolding spaced
 no-field = omega arith
 
-six-fields : (a b c d e f : List ℕ) → Few a → Few b → Few c → Few d → Few e → Few f → length (spaced (a ∷ b ∷ c ∷ d ∷ e ∷ f ∷ [])) ≤ 66
-six-fields a b c d e f ha hb hc hd he hf = one-field a _ 55 ha (one-field b _ 44 hb (one-field c _ 33 hc (one-field d _ 22 hd (one-field e _ 11 he (one-field f [] 0 hf no-field)))))
+none-few : length (spaced []) ≤ 11
+none-few = omega (arith, no-field)
 
-line-few : (l : Line) → LineWords l → length (lineOf l) ≤ 78
+optional-few : (o : Optional) → WordOptional o → length (spaced (optionalOf o)) ≤ 11
+unfolding optionalOf
+optional-few Optional.absent WordOptional.absent = none-few
+optional-few (Optional.given v) (WordOptional.given h) = one-field (decimalOf v) [] 0 (digits-most v h) no-field
+
+-- before fields that take at most eleven bytes
+six-fields : (a b c d e f : List ℕ) (rest : List (List ℕ)) → Few a → Few b → Few c → Few d → Few e → Few f → length (spaced rest) ≤ 11 → length (spaced (a ∷ b ∷ c ∷ d ∷ e ∷ f ∷ rest)) ≤ 77
+six-fields a b c d e f rest ha hb hc hd he hf h = one-field a _ 66 ha (one-field b _ 55 hb (one-field c _ 44 hc (one-field d _ 33 hd (one-field e _ 22 he (one-field f rest 11 hf h)))))
+
+line-few : (l : Line) → LineWords l → length (lineOf l) ≤ 89
 unfolding lineOf
 line-few (Line.params p) (LineWords.params w) =
-    let rest = six-fields (hexOf (p .ratio)) (hexOf (p .least)) (hexOf (p .greatest)) (hexOf (p .limit)) (decimalOf (p .quads)) (decimalOf (p .corners)) (hex-few (p .ratio)) (hex-few (p .least)) (hex-few (p .greatest)) (hex-few (p .limit)) (digits-most _ (w .quads)) (digits-most _ (w .corners)) in
-    omega (arith, one-field (hexOf (p .tolerance)) _ 66 (hex-few (p .tolerance)) rest)
+    let rest = six-fields (hexOf (p .ratio)) (hexOf (p .least)) (hexOf (p .greatest)) (hexOf (p .limit)) (decimalOf (p .quads)) (decimalOf (p .corners)) (optionalOf (p .rule)) (hex-few (p .ratio)) (hex-few (p .least)) (hex-few (p .greatest)) (hex-few (p .limit)) (digits-most _ (w .quads)) (digits-most _ (w .corners)) (optional-few (p .rule) (w .rule)) in
+    omega (arith, one-field (hexOf (p .tolerance)) _ 77 (hex-few (p .tolerance)) rest)
 line-few (Line.corner c) (LineWords.corner w) =
-    omega (arith, six-fields (hexOf (c .x)) (hexOf (c .y)) (hexOf (c .angle0)) (fieldOf hexOf (c .spread0)) (hexOf (c .angle1)) (fieldOf hexOf (c .spread1)) (hex-few (c .x)) (hex-few (c .y)) (hex-few (c .angle0)) (field-few hexOf (λ v h. hex-few v) _ (w .spread0)) (hex-few (c .angle1)) (field-few hexOf (λ v h. hex-few v) _ (w .spread1)))
+    omega (arith, six-fields (hexOf (c .x)) (hexOf (c .y)) (hexOf (c .angle0)) (fieldOf hexOf (c .spread0)) (hexOf (c .angle1)) (fieldOf hexOf (c .spread1)) [] (hex-few (c .x)) (hex-few (c .y)) (hex-few (c .angle0)) (field-few hexOf (λ v h. hex-few v) _ (w .spread0)) (hex-few (c .angle1)) (field-few hexOf (λ v h. hex-few v) _ (w .spread1)) none-few)
 line-few (Line.triangle t) (LineWords.triangle w) =
-    omega (arith, six-fields (decimalOf (t .a)) (decimalOf (t .b)) (decimalOf (t .c)) (fieldOf decimalOf (t .twin0)) (fieldOf decimalOf (t .twin1)) (fieldOf decimalOf (t .twin2)) (digits-most _ (w .a)) (digits-most _ (w .b)) (digits-most _ (w .c)) (field-few decimalOf digits-most _ (w .twin0)) (field-few decimalOf digits-most _ (w .twin1)) (field-few decimalOf digits-most _ (w .twin2)))
+    omega (arith, six-fields (decimalOf (t .a)) (decimalOf (t .b)) (decimalOf (t .c)) (fieldOf decimalOf (t .twin0)) (fieldOf decimalOf (t .twin1)) (fieldOf decimalOf (t .twin2)) [] (digits-most _ (w .a)) (digits-most _ (w .b)) (digits-most _ (w .c)) (field-few decimalOf digits-most _ (w .twin0)) (field-few decimalOf digits-most _ (w .twin1)) (field-few decimalOf digits-most _ (w .twin2)) none-few)
 
 -- ---- and lines that fit are at most 385
 
-lines-few : (ls : List Line) → Words ls → length (printed ls) ≤ 79 * length ls
+lines-few : (ls : List Line) → Words ls → length (printed ls) ≤ 90 * length ls
 unfolding printed
 lines-few [] w = omega arith
 lines-few (l ∷ ls) w = omega (arith, length-append (lineOf l) (10 ∷ printed ls), line-few l (w l (In.first refl)), lines-few ls (λ m i. w m (In.later i)))
@@ -62,10 +71,10 @@ fitting-few ls Fitting.none = omega arith
 fitting-few ls (Fitting.some f within) =
     omega (arith, length-append (map Line.corner (f .corners)) (map Line.triangle (f .triangles)), length-map (f .corners) Line.corner, length-map (f .triangles) Line.triangle, within .corners, within .triangles)
 
-fitting-short : (ls : List Line) → Fitting ls → length (printed ls) ≤ 30415
+fitting-short : (ls : List Line) → Fitting ls → length (printed ls) ≤ 34650
 fitting-short ls fits = omega (arith, lines-few ls (fitting-words fits), fitting-few ls fits)
 
-pub reads-short : (text : List ℕ) (f : Frame) → Reads text f → length text ≤ 30415
+pub reads-short : (text : List ℕ) (f : Frame) → Reads text f → length text ≤ 34650
 reads-short text f r = omega (arith, ap length (r .is), fitting-short (linesOf f) (Fitting.some f (r .within)))
 
 -- ---- the first bad line is that of the first bytes
@@ -84,7 +93,7 @@ module _ (text : List ℕ) (long : mostText ≤ length text) where
 
   bad-first-bytes : (k : ℕ) → Bad (take mostText text) k → Bad text k
   bad-first-bytes k b =
-      let room : 35121 ≤ length (b .rest) = omega (arith, cut, ap length (b .is), length-append (printed (b .before)) (b .rest), fitting-short (b .before) (b .fits)) in
+      let room : 30886 ≤ length (b .rest) = omega (arith, cut, ap length (b .is), length-append (printed (b .before)) (b .rest), fitting-short (b .before) (b .fits)) in
       let more = drop mostText text in
       record {
         before = b .before;

@@ -1,43 +1,87 @@
 -- What `read` answers, from what stands in the text: no P line is the first bad line 1; behind the lines that were read stands the text's end,
 -- and it is a frame's, or the first bad line. Assumes nothing.
-use mathlib.Core.Path.{_≡_, refl, sym, ap, _∙_, subst}
+use mathlib.Core.Path.{_≡_, refl, sym, ap, _∙_}
 use mathlib.Core.Logic.{_⊎_, inl, inr}
 use mathlib.Core.List.{List, [], _∷_, _++_, append-assoc, append-nil, map}
 use Prim.Native.Nat.{ℕ, _+_, _≤_, _<_}
 use native.Mathlib.Omega.{arith}
-use lib.ListN.{length, take, drop, length-append, length-drop, length-map, drop-of-length-le}
+use lib.ListN.{length, take, drop, set, length-append, length-drop, length-map, drop-of-length-le}
+use lib.Seq.{take-suc-set}
 use Rattle.cells.specs.Listed.{In}
 use Rattle.frame.specs.declared.Params.{Params}
 use Rattle.gridtext.specs.declared.FrameRead.{FrameRead}
 use Rattle.gridtext.specs.declared.inner.line.Next.{Next}
 use Rattle.gridtext.specs.declared.inner.row.Sort.{Sort}
-use Rattle.gridtext.specs.Lines.{Line, lineOf, printed, LineWords}
+use Rattle.gridtext.specs.Lines.{Optional, ParamsLine, Line, lineOf, printed, LineWords}
 use Rattle.gridtext.specs.Text.{mostCornerLines, mostTriangleLines, Frame, linesOf, Within, Fitting, Reads, Bad}
-use Rattle.gridtext.specs.Lists.{paramsOf}
-use Rattle.gridtext.specs.inner.Read.{paramWords, frameOf, cornerWords, triangleWords, lineWords, allWords, Laid, sortOf, Of, NoLine, LineStands, LineAt, LinesAt}
+use Rattle.gridtext.specs.Lists.{ruleOf, paramsOf}
+use Rattle.gridtext.specs.inner.Rows.{mostWords}
+use Rattle.gridtext.specs.inner.Read.{paramWords, ruleWords, allParams, frameOf, cornerWords, triangleWords, lineWords, allWords, Laid, paramsSort, sortOf, Of, NoLine, LineStands, LineAt, ParamsAt, LinesAt}
+use Rattle.gridtext.proofs.Rows.{withRule, by-rule}
 use Rattle.gridtext.proofs.Runs.{in-append, printed-append}
-use Rattle.gridtext.proofs.Parsing.{Behind, fits-behind, lines-of, a-params, a-corner, a-triangle}
+use Rattle.gridtext.proofs.Parsing.{Behind, fits-behind, lines-of, a-corner, a-triangle}
 
 -- ---- no P line
 
-only-params : (l : Line) (ls : List Line) → ls ≡ l ∷ [] → Fitting ls → Of Sort.Params l
-unfolding sortOf
+abbrev OfEither : Line → Type 0
+OfEither l = LineWords l → Of Sort.Params l ⊎ Of Sort.Ruled l
+
+only-params : (l : Line) (ls : List Line) → ls ≡ l ∷ [] → Fitting ls → Of Sort.Params l ⊎ Of Sort.Ruled l
+unfolding sortOf paramsSort
 only-params l ls e Fitting.none = let z : _≡_ {A = ℕ} 0 1 = cc in absurd (omega arith)
 only-params l ls e (Fitting.some f within) =
     let q : Line.params (f .params) ≡ l = cc in
-    rw (← q) (record { is = refl; words = within .words (Line.params (f .params)) (In.first refl) })
+    let either = by-rule OfEither (λ p w. inl (record { is = refl; words = w })) (λ p v w. inr (record { is = refl; words = w })) (f .params) in
+    rw (← q) (either (within .words (Line.params (f .params)) (In.first refl)))
 
-pub bad-first : (text : List ℕ) → NoLine Sort.Params text 0 → Bad text 1
+pub bad-first : (text : List ℕ) → NoLine Sort.Params text 0 → NoLine Sort.Ruled text 0 → Bad text 1
 unfolding printed
-bad-first text none = record {
+bad-first text plain ruled = record {
   before = [];
   fits = Fitting.none;
   rest = text;
   is = refl;
   number = refl;
   ends = λ e. refl;
-  stuck = λ l after e fits. none l after (only-params l (l ∷ []) refl fits) e;
+  stuck = λ l after e fits. go l after e (only-params l (l ∷ []) refl fits);
 }
+  where
+    go : (l : Line) (after : List ℕ) → text ≡ lineOf l ++ (10 ∷ after) → Of Sort.Params l ⊎ Of Sort.Ruled l → ⊥
+    go l after e (inl of) = plain l after of e
+    go l after e (inr of) = ruled l after of e
+
+-- ---- the P line that was read
+
+module _ {text out : List ℕ} where
+  -- behind the words of one that leaves the rule out, a 1 is put
+  pub plain-at : {next : ℕ} → length out ≡ mostWords → LineAt Sort.Params text 0 out (Next.At next) → ParamsAt text (set out 7 1) (Next.At next)
+  unfolding sortOf paramsSort lineWords paramWords ruleWords allParams ruleOf
+  plain-at h (LineAt.found {l} {next} of s t) = go l of s t
+    where
+      Then : Line → Type 0
+      Then l = Of Sort.Params l → LineStands text 0 l next → take (length (lineWords l)) out ≡ lineWords l → ParamsAt text (set out 7 1) (Next.At next)
+
+      one-put : (p : ParamsLine) → Then (withRule p Optional.absent)
+      one-put p of s t = ParamsAt.found (of .words) s (take-suc-set out 7 1 (omega (arith, h)) ∙ ap (λ (x : List ℕ). x ++ (1 ∷ [])) t)
+
+      go : (l : Line) → Then l
+      go (Line.params p) of s t = by-rule Then one-put (λ q v o _ _. let z : _≡_ {A = ℕ} 0 1 = cc (o .is) in absurd (omega arith)) p of s t
+      go (Line.corner c) of s t = let z : _≡_ {A = ℕ} 0 1 = cc (of .is) in absurd (omega arith)
+      go (Line.triangle c) of s t = let z : _≡_ {A = ℕ} 0 1 = cc (of .is) in absurd (omega arith)
+
+  -- the words of one that gives the rule are all parameters
+  pub ruled-at : {r : Next} → NoLine Sort.Params text 0 → LineAt Sort.Ruled text 0 out r → ParamsAt text out r
+  unfolding sortOf paramsSort lineWords paramWords ruleWords allParams ruleOf
+  ruled-at none (LineAt.nothing n) = ParamsAt.nothing none n
+  ruled-at none (LineAt.found {l} {next} of s t) = go l of s t
+    where
+      Then : Line → Type 0
+      Then l = Of Sort.Ruled l → LineStands text 0 l next → take (length (lineWords l)) out ≡ lineWords l → ParamsAt text out (Next.At next)
+
+      go : (l : Line) → Then l
+      go (Line.params p) of s t = by-rule Then (λ q o _ _. let z : _≡_ {A = ℕ} 0 1 = cc (o .is) in absurd (omega arith)) (λ q v o at words. ParamsAt.found (o .words) at words) p of s t
+      go (Line.corner c) of s t = let z : _≡_ {A = ℕ} 0 1 = cc (of .is) in absurd (omega arith)
+      go (Line.triangle c) of s t = let z : _≡_ {A = ℕ} 0 1 = cc (of .is) in absurd (omega arith)
 
 -- ---- lines of all three sorts
 
@@ -54,7 +98,7 @@ nothing-in (x ∷ xs) e = absurd (omega arith)
 pub record Three (text : List ℕ) (f : Frame) (c₀ c t₀ t : List ℕ) (m n end : ℕ) : Type 0 where
   pub at : ℕ
   pub next : ℕ
-  pub of : Of Sort.Params (Line.params (f .params))
+  pub words : LineWords (Line.params (f .params))
   pub first : LineStands text 0 (Line.params (f .params)) at
   pub cs : LinesAt Sort.Corner mostCornerLines text at c₀ c m next
   pub ts : LinesAt Sort.Triangle mostTriangleLines text next t₀ t n end
@@ -69,7 +113,7 @@ module _ {text : List ℕ} {f : Frame} {c₀ c t₀ t : List ℕ} {m n end : ℕ
   triangle-count = three .ts .number ∙ ap length (three .triangles) ∙ length-map (f .triangles) Line.triangle
 
   every : (l : Line) → In l (linesOf f) → LineWords l
-  every l (In.first q) = rw q (three .of .words)
+  every l (In.first q) = rw q (three .words)
   every l (In.later i) = go (in-append (map Line.corner (f .corners)) (map Line.triangle (f .triangles)) i)
     where
       go : In l (map Line.corner (f .corners)) ⊎ In l (map Line.triangle (f .triangles)) → LineWords l
@@ -128,33 +172,34 @@ module _ {text : List ℕ} {f : Frame} {c₀ c t₀ t : List ℕ} {m n end : ℕ
 
 -- ---- what the three readers found
 
-pub line-within : {sort : Sort} {text : List ℕ} {at next : ℕ} {out : List ℕ} → LineAt sort text at out (Next.At next) → next ≤ length text
-line-within (LineAt.found of s t) = s .within
+pub params-within : {text out : List ℕ} {next : ℕ} → ParamsAt text out (Next.At next) → next ≤ length text
+params-within (ParamsAt.found w s t) = s .within
+
+pub params-missing : {text out : List ℕ} → ParamsAt text out Next.Nothing → Bad text 1
+params-missing {text} (ParamsAt.nothing plain ruled) = bad-first text plain ruled
 
 pub record Found (text out c₀ c t₀ t : List ℕ) (m n end : ℕ) : Type 0 where
   pub frame : Frame
   pub three : Three text frame c₀ c t₀ t m n end
-  pub params : take (length (paramWords (frame .params))) out ≡ paramWords (frame .params)
+  pub params : take (length (allParams (frame .params))) out ≡ allParams (frame .params)
 
-pub found-three : {text out c₀ c t₀ t : List ℕ} {at m n next end : ℕ} → LineAt Sort.Params text 0 out (Next.At at) → LinesAt Sort.Corner mostCornerLines text at c₀ c m next → LinesAt Sort.Triangle mostTriangleLines text next t₀ t n end → Found text out c₀ c t₀ t m n end
-unfolding lineWords
-found-three {text} {out} {at = at} {next = next} (LineAt.found {l} of s words) cs ts =
-    let p = a-params l (of .is) in
+pub found-three : {text out c₀ c t₀ t : List ℕ} {at m n next end : ℕ} → ParamsAt text out (Next.At at) → LinesAt Sort.Corner mostCornerLines text at c₀ c m next → LinesAt Sort.Triangle mostTriangleLines text next t₀ t n end → Found text out c₀ c t₀ t m n end
+found-three {at = at} {next = next} (ParamsAt.found {p} words s params) cs ts =
     let x = lines-of Line.corner Sort.Corner a-corner (cs .lines) (cs .each) in
     let y = lines-of Line.triangle Sort.Triangle a-triangle (ts .lines) (ts .each) in
     record {
-      frame = record { params = p .0; corners = x .0; triangles = y .0 };
+      frame = record { params = p; corners = x .0; triangles = y .0 };
       three = record {
         at = at;
         next = next;
-        of = subst (Of Sort.Params) (p .1) of;
-        first = subst (λ (k : Line). LineStands text 0 k at) (p .1) s;
+        words = words;
+        first = s;
         cs = cs;
         ts = ts;
         corners = x .1;
         triangles = y .1;
       };
-      params = subst (λ (k : Line). take (length (lineWords k)) out ≡ lineWords k) (p .1) words;
+      params = params;
     }
 
 pub frame-is : (r : Params) (m n : ℕ) (f : Frame) → m ≡ length (f .corners) → n ≡ length (f .triangles) → r ≡ paramsOf (f .params) → _≡_ {A = FrameRead} (record { params = r; corners = m; triangles = n }) (frameOf f)

@@ -12,7 +12,9 @@ use Rattle.digits.proofs.Numerals.{split-equal}
 use Rattle.gridtext.specs.declared.inner.row.Sort.{Sort}
 use Rattle.gridtext.specs.Lines.{ParamsLine, CornerLine, TriangleLine, Line, LineWords}
 use Rattle.gridtext.specs.Text.{mostCornerLines, mostTriangleLines, Frame, linesOf, Within, Fitting}
+use Rattle.gridtext.specs.inner.Rows.{letterOf}
 use Rattle.gridtext.specs.inner.Read.{sortOf, Of}
+use Rattle.gridtext.proofs.Rows.{not-params}
 
 -- ---- counting lines
 
@@ -129,20 +131,21 @@ module _ {A : Type 0} (line : A → Line) (sort : Sort) (out : (l : Line) → so
       let r = lines-of ls (λ m i. each m (In.later i)) in
       (a .0 ∷ r .0, cc)
 
-pub a-params : (l : Line) → sortOf l ≡ Sort.Params → (p : ParamsLine) × (l ≡ Line.params p)
+-- whether it gives the rule or not
+pub a-params : (l : Line) → letterOf (sortOf l) ≡ 80 → (p : ParamsLine) × (l ≡ Line.params p)
 unfolding sortOf
 a-params (Line.params p) e = (p, refl)
-a-params (Line.corner c) e = let z : _≡_ {A = ℕ} 0 1 = cc in absurd (omega arith)
-a-params (Line.triangle t) e = let z : _≡_ {A = ℕ} 0 1 = cc in absurd (omega arith)
+a-params (Line.corner c) e = absurd (omega arith)
+a-params (Line.triangle t) e = absurd (omega arith)
 
 pub a-corner : (l : Line) → sortOf l ≡ Sort.Corner → (c : CornerLine) × (l ≡ Line.corner c)
 unfolding sortOf
-a-corner (Line.params p) e = let z : _≡_ {A = ℕ} 0 1 = cc in absurd (omega arith)
+a-corner (Line.params p) e = absurd (not-params (p .rule) Sort.Corner e (λ l. omega arith))
 a-corner (Line.corner c) e = (c, refl)
 a-corner (Line.triangle t) e = let z : _≡_ {A = ℕ} 0 1 = cc in absurd (omega arith)
 
 pub a-triangle : (l : Line) → sortOf l ≡ Sort.Triangle → (t : TriangleLine) × (l ≡ Line.triangle t)
 unfolding sortOf
-a-triangle (Line.params p) e = let z : _≡_ {A = ℕ} 0 1 = cc in absurd (omega arith)
+a-triangle (Line.params p) e = absurd (not-params (p .rule) Sort.Triangle e (λ l. omega arith))
 a-triangle (Line.corner c) e = let z : _≡_ {A = ℕ} 0 1 = cc in absurd (omega arith)
 a-triangle (Line.triangle t) e = (t, refl)

@@ -8,10 +8,10 @@ use lib.ListN.{length, drop}
 use Rattle.digits.specs.declared.End.{End}
 use Rattle.gridtext.specs.declared.inner.row.Kind.{Kind}
 use Rattle.gridtext.specs.declared.inner.row.Sort.{Sort}
-use Rattle.gridtext.specs.Lines.{Field, Line, fieldOf, spaced, lineOf, WordField, LineWords}
-use Rattle.gridtext.specs.inner.Rows.{letterOf, kindsOf, mostWords, endAfter, formOf, Allowed, spreadWords, wordsOf}
+use Rattle.gridtext.specs.Lines.{Field, Optional, ParamsLine, Line, fieldOf, optionalOf, spaced, lineOf, WordField, WordOptional, ParamsWords, LineWords}
+use Rattle.gridtext.specs.inner.Rows.{letterOf, paramKinds, kindsOf, mostWords, endAfter, formOf, Allowed, spreadWords, wordsOf}
 use Rattle.gridtext.specs.Lists.{wordOf}
-use Rattle.gridtext.specs.inner.Read.{paramWords, cornerWords, triangleWords, lineWords, sortOf, Of}
+use Rattle.gridtext.specs.inner.Read.{paramWords, ruleWords, cornerWords, triangleWords, lineWords, paramsSort, sortOf, Of}
 use Rattle.gridtext.proofs.Fields.{one-field}
 
 -- ---- fields of kinds
@@ -54,6 +54,7 @@ words-places Kind.Twin f = refl
 pub total-few : (sort : Sort) → total (kindsOf sort) ≤ mostWords
 unfolding total placesOf
 total-few Sort.Params = omega arith
+total-few Sort.Ruled = omega arith
 total-few Sort.Corner = omega arith
 total-few Sort.Triangle = omega arith
 
@@ -119,10 +120,17 @@ whole {rest = rest} (Got.more {k} {ks} {at} {next} {words} {f} g a e) fs fits is
 
 -- ---- a line's row
 
-unfoldable pub fieldsOf : Line → List Field
-fieldsOf (Line.params p) =
+unfoldable pub ruleFields : Optional → List Field
+ruleFields Optional.absent = []
+ruleFields (Optional.given v) = Field.word v ∷ []
+
+abbrev paramFields : ParamsLine → (rule : List Field) → List Field
+paramFields p rule =
     Field.word (p .tolerance) ∷ Field.word (p .ratio) ∷ Field.word (p .least) ∷ Field.word (p .greatest) ∷ Field.word (p .limit) ∷ Field.word (p .quads)
-    ∷ Field.word (p .corners) ∷ []
+    ∷ Field.word (p .corners) ∷ rule
+
+unfoldable pub fieldsOf : Line → List Field
+fieldsOf (Line.params p) = paramFields p (ruleFields (p .rule))
 fieldsOf (Line.corner c) = Field.word (c .x) ∷ Field.word (c .y) ∷ Field.word (c .angle0) ∷ c .spread0 ∷ Field.word (c .angle1) ∷ c .spread1 ∷ []
 fieldsOf (Line.triangle t) = Field.word (t .a) ∷ Field.word (t .b) ∷ Field.word (t .c) ∷ t .twin0 ∷ t .twin1 ∷ t .twin2 ∷ []
 
@@ -139,11 +147,21 @@ allowed-word (Allowed.word w) = WordField.word w
 allowed-word Allowed.spread = WordField.minus
 allowed-word Allowed.twin = WordField.minus
 
+-- the kinds of a P line's fields, with those of the rule behind them
+params-fit : {p : ParamsLine} {ks : List Kind} {fs : List Field} → ParamsWords p → Fits ks fs
+    → Fits (paramKinds (Kind.Decimal ∷ ks)) (paramFields p fs)
+params-fit w fits =
+    Fits.more (Allowed.word (w .tolerance)) (Fits.more (Allowed.word (w .ratio)) (Fits.more (Allowed.word (w .least))
+    (Fits.more (Allowed.word (w .greatest)) (Fits.more (Allowed.word (w .limit)) (Fits.more (Allowed.word (w .quads)) (Fits.more (Allowed.word (w .corners)) fits))))))
+
+ruled-fit : {p : ParamsLine} (r : Optional) → ParamsWords p → WordOptional r → Fits (kindsOf (paramsSort r)) (paramFields p (ruleFields r))
+unfolding paramsSort ruleFields
+ruled-fit Optional.absent w WordOptional.absent = params-fit w Fits.none
+ruled-fit (Optional.given v) w (WordOptional.given h) = params-fit w (Fits.more (Allowed.word h) Fits.none)
+
 pub row-fits : {l : Line} → LineWords l → Fits (kindsOf (sortOf l)) (fieldsOf l)
 unfolding sortOf fieldsOf
-row-fits (LineWords.params w) =
-    Fits.more (Allowed.word (w .tolerance)) (Fits.more (Allowed.word (w .ratio)) (Fits.more (Allowed.word (w .least))
-    (Fits.more (Allowed.word (w .greatest)) (Fits.more (Allowed.word (w .limit)) (Fits.more (Allowed.word (w .quads)) (Fits.more (Allowed.word (w .corners)) Fits.none))))))
+row-fits (LineWords.params {p} w) = ruled-fit (p .rule) w (w .rule)
 row-fits (LineWords.corner w) =
     Fits.more (Allowed.word (w .x)) (Fits.more (Allowed.word (w .y)) (Fits.more (Allowed.word (w .angle0))
     (Fits.more (spread-allowed (w .spread0)) (Fits.more (Allowed.word (w .angle1)) (Fits.more (spread-allowed (w .spread1)) Fits.none)))))
@@ -156,12 +174,23 @@ pub record LineOf (sort : Sort) (fs : List Field) : Type 0 where
   pub of : Of sort line
   pub fields : fieldsOf line ≡ fs
 
+-- a P line has its letter, whether it gives the rule or not, so that it is of no other sort
+pub not-params : (r : Optional) (sort : Sort) → paramsSort r ≡ sort → (letterOf sort ≡ 80 → ⊥) → ⊥
+unfolding paramsSort
+not-params Optional.absent sort e other = other (ap letterOf (sym e))
+not-params (Optional.given v) sort e other = other (ap letterOf (sym e))
+
 -- every row of a sort is a line's
 pub line-of : (sort : Sort) (fs : List Field) → Fits (kindsOf sort) fs → LineOf sort fs
-unfolding sortOf fieldsOf
+unfolding sortOf paramsSort fieldsOf ruleFields
 line-of Sort.Params _ (Fits.more (Allowed.word {v = a} p) (Fits.more (Allowed.word {v = b} q) (Fits.more (Allowed.word {v = c} r) (Fits.more (Allowed.word {v = d} s) (Fits.more (Allowed.word {v = e} t) (Fits.more (Allowed.word {v = f} u) (Fits.more (Allowed.word {v = g} w) Fits.none))))))) = record {
-  line = Line.params (record { tolerance = a; ratio = b; least = c; greatest = d; limit = e; quads = f; corners = g });
-  of = record { is = refl; words = LineWords.params (record { tolerance = p; ratio = q; least = r; greatest = s; limit = t; quads = u; corners = w }) };
+  line = Line.params (record { tolerance = a; ratio = b; least = c; greatest = d; limit = e; quads = f; corners = g; rule = Optional.absent });
+  of = record { is = refl; words = LineWords.params (record { tolerance = p; ratio = q; least = r; greatest = s; limit = t; quads = u; corners = w; rule = WordOptional.absent }) };
+  fields = refl;
+}
+line-of Sort.Ruled _ (Fits.more (Allowed.word {v = a} p) (Fits.more (Allowed.word {v = b} q) (Fits.more (Allowed.word {v = c} r) (Fits.more (Allowed.word {v = d} s) (Fits.more (Allowed.word {v = e} t) (Fits.more (Allowed.word {v = f} u) (Fits.more (Allowed.word {v = g} w) (Fits.more (Allowed.word {v = h} x) Fits.none)))))))) = record {
+  line = Line.params (record { tolerance = a; ratio = b; least = c; greatest = d; limit = e; quads = f; corners = g; rule = Optional.given h });
+  of = record { is = refl; words = LineWords.params (record { tolerance = p; ratio = q; least = r; greatest = s; limit = t; quads = u; corners = w; rule = WordOptional.given x }) };
   fields = refl;
 }
 line-of Sort.Corner _ (Fits.more (Allowed.word {v = a} p) (Fits.more (Allowed.word {v = b} q) (Fits.more (Allowed.word {v = c} r) (Fits.more {f = d} s (Fits.more (Allowed.word {v = e} t) (Fits.more {f = f} u Fits.none)))))) = record {
@@ -175,6 +204,18 @@ line-of Sort.Triangle _ (Fits.more (Allowed.word {v = a} p) (Fits.more (Allowed.
   fields = refl;
 }
 
+-- a P line gives its rule or leaves it out
+abbrev pub withRule : ParamsLine → Optional → Line
+withRule p r =
+    Line.params (record { tolerance = p .tolerance; ratio = p .ratio; least = p .least; greatest = p .greatest; limit = p .limit; quads = p .quads; corners = p .corners; rule = r })
+
+pub by-rule : (Holds : Line → Type 0) → ((p : ParamsLine) → Holds (withRule p Optional.absent)) → ((p : ParamsLine) (v : ℕ) → Holds (withRule p (Optional.given v))) → (p : ParamsLine) → Holds (Line.params p)
+by-rule Holds absent given p = go (p .rule)
+  where
+    go : (r : Optional) → Holds (withRule p r)
+    go Optional.absent = absent p
+    go (Optional.given v) = given p v
+
 unfoldable formsOf : List Kind → List Field → List (List ℕ)
 formsOf (k ∷ ks) (f ∷ fs) = formOf k f ∷ formsOf ks fs
 formsOf (k ∷ ks) [] = []
@@ -185,14 +226,18 @@ unfolding spaced formsOf rowOf
 spaced-row Fits.none rest = refl
 spaced-row (Fits.more {k} {ks} {f} {fs} a fits) rest = rw (append-assoc, spaced-row fits rest)
 
-line-forms : (l : Line) → lineOf l ≡ letterOf (sortOf l) ∷ spaced (formsOf (kindsOf (sortOf l)) (fieldsOf l))
-unfolding lineOf sortOf fieldsOf formsOf formOf fieldOf
-line-forms (Line.params p) = refl
+abbrev Formed : Line → Type 0
+Formed l = lineOf l ≡ letterOf (sortOf l) ∷ spaced (formsOf (kindsOf (sortOf l)) (fieldsOf l))
+
+line-forms : (l : Line) → Formed l
+unfolding lineOf optionalOf sortOf paramsSort fieldsOf ruleFields formsOf formOf fieldOf
+line-forms (Line.params p) = by-rule Formed (λ q. refl) (λ q v. refl) p
 line-forms (Line.corner c) = refl
 line-forms (Line.triangle t) = refl
 
 blank-first : (sort : Sort) → endAfter (length (kindsOf sort)) ≡ 32
 blank-first Sort.Params = refl
+blank-first Sort.Ruled = refl
 blank-first Sort.Corner = refl
 blank-first Sort.Triangle = refl
 
@@ -201,8 +246,11 @@ pub line-row : {sort : Sort} (l : Line) (rest : List ℕ) → Of sort l → line
 line-row l rest of =
     ap (λ (x : List ℕ). x ++ (10 ∷ rest)) (line-forms l) ∙ rw (spaced-row (row-fits (of .words)) rest, blank-first (sortOf l), of .is)
 
-pub line-words : (l : Line) → lineWords l ≡ rowWords (kindsOf (sortOf l)) (fieldsOf l)
-unfolding lineWords paramWords cornerWords triangleWords sortOf fieldsOf rowWords wordsOf wordOf
-line-words (Line.params p) = refl
+abbrev Worded : Line → Type 0
+Worded l = lineWords l ≡ rowWords (kindsOf (sortOf l)) (fieldsOf l)
+
+pub line-words : (l : Line) → Worded l
+unfolding lineWords paramWords ruleWords cornerWords triangleWords sortOf paramsSort fieldsOf ruleFields rowWords wordsOf wordOf
+line-words (Line.params p) = by-rule Worded (λ q. refl) (λ q v. refl) p
 line-words (Line.corner c) = rw append-nil
 line-words (Line.triangle t) = refl

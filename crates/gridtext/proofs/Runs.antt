@@ -14,7 +14,8 @@ use Rattle.gridtext.specs.declared.inner.line.Next.{Next}
 use Rattle.gridtext.specs.declared.inner.row.Sort.{Sort}
 use Rattle.gridtext.specs.Lines.{Field, Line, lineOf, printed}
 use Rattle.gridtext.specs.inner.Rows.{sizeOf, mostWords, spreadWords}
-use Rattle.gridtext.specs.inner.Read.{paramWords, cornerWords, triangleWords, lineWords, allWords, Laid, sortOf, Of, NoLine, LineAt, LinesAt}
+use Rattle.gridtext.specs.inner.Read.{paramWords, ruleWords, cornerWords, triangleWords, lineWords, allWords, Laid, paramsSort, sortOf, Of, NoLine, LineAt, LinesAt}
+use Rattle.gridtext.proofs.Rows.{by-rule}
 
 -- ---- lists of lines, one longer
 
@@ -47,8 +48,8 @@ spread-two Field.minus = refl
 spread-two (Field.word v) = refl
 
 pub line-size : (l : Line) → length (lineWords l) ≡ sizeOf (sortOf l)
-unfolding lineWords paramWords cornerWords triangleWords sortOf
-line-size (Line.params p) = refl
+unfolding lineWords paramWords ruleWords cornerWords triangleWords sortOf paramsSort
+line-size (Line.params p) = by-rule (λ (l : Line). length (lineWords l) ≡ sizeOf (sortOf l)) (λ q. refl) (λ q v. refl) p
 line-size (Line.corner c) = simp (length-append, spread-two)
 line-size (Line.triangle t) = refl
 
@@ -61,6 +62,7 @@ once-more count most size h =
 
 pub size-few : (sort : Sort) → sizeOf sort ≤ mostWords
 size-few Sort.Params = omega arith
+size-few Sort.Ruled = omega arith
 size-few Sort.Corner = omega arith
 size-few Sort.Triangle = omega arith
 

@@ -12,7 +12,7 @@ use Rattle.gridtext.specs.Text.{Frame, Reads, Bad}
 use Rattle.gridtext.specs.Lists.{inputOf}
 use Rattle.gridtext.specs.Answer.{badText, refusedText, componentsText}
 
--- rows 1 to 7 decide: the lists of a text and the program's own are never the cause of a refusal (proofs/NeverShort)
+-- rows 1 to 7, with 18, decide: the lists of a text and the program's own are never the cause of a refusal (proofs/NeverShort)
 pub data Answers (text : List ℕ) : List ℕ → Type 0 where
   bad : (k : ℕ) → Bad text k → Answers text (badText k)
   refused : (f : Frame) → Reads text f → (why : Refusal) → judgeOf (inputOf f) ≡ Shut why → Answers text (refusedText why)

@@ -1,5 +1,5 @@
 -- Document 01's lines, and how each is printed. Floats are eight upper-case hex digits, a minus is a missing spread or no twin, all else is
--- decimal; one blank stands between.
+-- decimal; one blank stands between. The number of document 02's spread rule may end the P line.
 use mathlib.Core.List.{List, [], _∷_, _++_}
 use Prim.Native.Nat.{ℕ, _<_}
 use Rattle.digits.specs.Digits.{hexOf, decimalOf}
@@ -9,7 +9,12 @@ pub data Field : Type 0 where
   minus : Field
   word : ℕ → Field
 
--- tolerance, ratio, least, greatest, spread limit, by their bits; then least quads and least corners
+-- a field that may be left out
+pub data Optional : Type 0 where
+  absent : Optional
+  given : ℕ → Optional
+
+-- tolerance, ratio, least, greatest, spread limit, by their bits; then least quads and least corners; then the spread rule's number, or nothing
 pub record ParamsLine : Type 0 where
   pub tolerance : ℕ
   pub ratio : ℕ
@@ -18,6 +23,7 @@ pub record ParamsLine : Type 0 where
   pub limit : ℕ
   pub quads : ℕ
   pub corners : ℕ
+  pub rule : Optional
 
 -- x, y, angle, spread, angle, spread
 pub record CornerLine : Type 0 where
@@ -48,6 +54,10 @@ unfoldable pub fieldOf : (ℕ → List ℕ) → Field → List ℕ
 fieldOf form Field.minus = 45 ∷ []
 fieldOf form (Field.word v) = form v
 
+unfoldable pub optionalOf : Optional → List (List ℕ)
+optionalOf Optional.absent = []
+optionalOf (Optional.given v) = decimalOf v ∷ []
+
 -- a letter and fields, with one blank before each field
 unfoldable pub spaced : List (List ℕ) → List ℕ
 spaced [] = []
@@ -55,7 +65,7 @@ spaced (f ∷ fs) = 32 ∷ (f ++ spaced fs)
 
 unfoldable pub lineOf : Line → List ℕ
 lineOf (Line.params p) =
-    80 ∷ spaced (hexOf (p .tolerance) ∷ hexOf (p .ratio) ∷ hexOf (p .least) ∷ hexOf (p .greatest) ∷ hexOf (p .limit) ∷ decimalOf (p .quads) ∷ decimalOf (p .corners) ∷ [])
+    80 ∷ spaced (hexOf (p .tolerance) ∷ hexOf (p .ratio) ∷ hexOf (p .least) ∷ hexOf (p .greatest) ∷ hexOf (p .limit) ∷ decimalOf (p .quads) ∷ decimalOf (p .corners) ∷ optionalOf (p .rule))
 lineOf (Line.corner c) =
     67 ∷ spaced (hexOf (c .x) ∷ hexOf (c .y) ∷ hexOf (c .angle0) ∷ fieldOf hexOf (c .spread0) ∷ hexOf (c .angle1) ∷ fieldOf hexOf (c .spread1) ∷ [])
 lineOf (Line.triangle t) =
@@ -75,6 +85,10 @@ pub data WordField : Field → Type 0 where
   minus : WordField Field.minus
   word : {v : ℕ} → IsWord v → WordField (Field.word v)
 
+pub data WordOptional : Optional → Type 0 where
+  absent : WordOptional Optional.absent
+  given : {v : ℕ} → IsWord v → WordOptional (Optional.given v)
+
 pub record ParamsWords (p : ParamsLine) : Type 0 where
   pub tolerance : IsWord (p .tolerance)
   pub ratio : IsWord (p .ratio)
@@ -83,6 +97,7 @@ pub record ParamsWords (p : ParamsLine) : Type 0 where
   pub limit : IsWord (p .limit)
   pub quads : IsWord (p .quads)
   pub corners : IsWord (p .corners)
+  pub rule : WordOptional (p .rule)
 
 pub record CornerWords (c : CornerLine) : Type 0 where
   pub x : IsWord (c .x)

@@ -6,7 +6,7 @@ use Rattle.measure.specs.Float.{bits}
 use Rattle.mesh.specs.HalfEdge.{noTwin}
 use Rattle.frame.specs.declared.Params.{Params}
 use Rattle.frame.specs.Stages.{Input}
-use Rattle.gridtext.specs.Lines.{Field, ParamsLine, CornerLine, TriangleLine}
+use Rattle.gridtext.specs.Lines.{Field, Optional, ParamsLine, CornerLine, TriangleLine}
 use Rattle.gridtext.specs.Text.{Frame}
 
 -- a mark of 0 says that the spread beside it is missing
@@ -23,9 +23,14 @@ unfoldable pub twinWord : Field → ℕ
 twinWord Field.minus = noTwin
 twinWord (Field.word v) = v
 
+-- a rule that is left out is rule 1
+unfoldable pub ruleOf : Optional → ℕ
+ruleOf Optional.absent = 1
+ruleOf (Optional.given v) = v
+
 unfoldable pub paramsOf : ParamsLine → Params
 paramsOf p = record {
-  edges = record { tolerance = bits (p .tolerance); spread = record { limit = bits (p .limit) } };
+  edges = record { tolerance = bits (p .tolerance); spread = record { number = ruleOf (p .rule); limit = bits (p .limit) } };
   filters = record { ratio = bits (p .ratio); least = bits (p .least); greatest = bits (p .greatest) };
   labels = record { quads = p .quads; corners = p .corners };
 }

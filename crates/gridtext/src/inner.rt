@@ -3,7 +3,7 @@
 ghost use mathlib.Core.Path.{_≡_};
 ghost use Prim.Native.Nat.{_*_, _≤_};
 ghost use lib.ListN.{length};
-ghost use Rattle.gridtext.specs.inner.Read.{ParamsStanding, Parses};
+ghost use Rattle.gridtext.specs.inner.Read.{ParamsStanding, ParamsAt, Parses};
 ghost use Rattle.gridtext.specs.inner.Rows.{cornerSize, triangleSize, mostWords};
 ghost use Rattle.gridtext.specs.Text.{mostCornerLines, mostTriangleLines};
 use crate::FrameRead;
@@ -27,12 +27,13 @@ pub mod room;
 mod row;
 mod unpack;
 
-// The parameters of the P line whose words the list begins with.
+// The parameters that the list begins with, a P line's: five floats by their bits, two numbers and the rule that counts.
 fn params_of(words: &[u32; room::MOST_WORDS]) -> Params
     requires { ⌜ length (now words) ≡ mostWords ⌝ }
     ensures { λ r. ⌜ ParamsStanding (now (words .entry)) r ⌝ }
 {
     let spread = SpreadRule {
+        number: words[7],
         limit: float_of(words[4]),
     };
     Params {
@@ -52,13 +53,26 @@ fn params_of(words: &[u32; room::MOST_WORDS]) -> Params
     }
 }
 
+// The P line that the text begins with; its parameters to the front of the list. A rule that is left out is rule 1.
+fn params_at(text: &[u8], words: &mut [u32; room::MOST_WORDS]) -> Next
+    requires { ⌜ length (now words) ≡ mostWords ⌝ }
+    ensures { λ r. ⌜ (length (now (words .exit)) ≡ mostWords) × ParamsAt (now (text .entry)) (now (words .exit)) r ⌝ }
+{
+    let plain = line_at(text, 0, Sort::Params, words);
+    let Next::At(next) = plain else {
+        return line_at(text, 0, Sort::Ruled, words);
+    };
+    words[7] = 1;
+    Next::At(next)
+}
+
 // Reads a text: the P line, then the C lines, then the T lines, each as far as they go or may; what follows them is the first bad line.
 pub fn read(text: &[u8], corners: &mut [u32], triangles: &mut [u32]) -> Parsed
     requires { ⌜ (mostCornerLines * cornerSize ≤ length (now corners)) × (mostTriangleLines * triangleSize ≤ length (now triangles)) ⌝ }
     ensures { λ r. ⌜ Parses (now (text .entry)) (now (corners .entry)) (now (corners .exit)) (now (triangles .entry)) (now (triangles .exit)) r ⌝ }
 {
     let mut words = [0u32; room::MOST_WORDS];
-    let first = line_at(text, 0, Sort::Params, &mut words);
+    let first = params_at(text, &mut words);
     let Next::At(at) = first else {
         return Parsed::Bad(1);
     };

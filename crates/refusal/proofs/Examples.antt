@@ -4,7 +4,7 @@ use mathlib.Core.Path.{_≡_, refl, sym}
 use Prim.Native.Nat.{ℕ}
 use lib.Dec.{leb}
 use Rattle.refusal.specs.declared.Refusal.{Refusal}
-use Rattle.refusal.specs.declared.Refusal.the-variants.{Unpaired, OverLimit, ParameterNan, OutOfRange, NoSuchCorner, NoSuchClass, CornerTwice, TwinPastEnd, TwinNotBack, TwinElsewhere, WorkspaceShort, RecordsShort, EntriesShort}
+use Rattle.refusal.specs.declared.Refusal.the-variants.{Unpaired, OverLimit, ParameterNan, NoSuchRule, OutOfRange, NoSuchCorner, NoSuchClass, CornerTwice, TwinPastEnd, TwinNotBack, TwinElsewhere, WorkspaceShort, RecordsShort, EntriesShort}
 use Rattle.refusal.specs.Table.{numberOf, placeOf, besideOf, hasBeside}
 use Rattle.refusal.specs.First.{firstOf}
 
@@ -12,9 +12,12 @@ use Rattle.refusal.specs.First.{firstOf}
 pub single-float : (numberOf (OutOfRange 0) ≡ 4) × (placeOf (OutOfRange 0) ≡ 0)
 single-float = (refl, refl)
 
--- a spread limit that is NaN; a list that lacks room for 12 records
+-- a spread limit that is NaN; a rule that is neither of the two; a list that lacks room for 12 records
 pub spread-limit : (numberOf (ParameterNan 4) ≡ 3) × (placeOf (ParameterNan 4) ≡ 4)
 spread-limit = (refl, refl)
+
+pub unknown-rule : (numberOf NoSuchRule ≡ 18) × (placeOf NoSuchRule ≡ 0) × (hasBeside (numberOf NoSuchRule) ≡ false)
+unknown-rule = (refl, refl, refl)
 
 pub room : (numberOf (RecordsShort 12) ≡ 9) × (placeOf (RecordsShort 12) ≡ 12) × (besideOf (RecordsShort 12) ≡ 0) × (hasBeside (numberOf (RecordsShort 12)) ≡ false)
 room = (refl, refl, refl, refl)
@@ -38,6 +41,7 @@ pub other-zero : (why : Refusal) → hasBeside (numberOf why) ≡ false → besi
 other-zero Unpaired e = refl
 other-zero OverLimit e = refl
 other-zero (ParameterNan parameter) e = refl
+other-zero NoSuchRule e = refl
 other-zero (OutOfRange corner) e = refl
 other-zero (NoSuchCorner position) e = refl
 other-zero (NoSuchClass position) e = refl

@@ -1,4 +1,4 @@
-// Kind 6: the components of a whole frame, and their entries.
+// Kinds 6 and 9: the components of a whole frame, and their entries, by rule 1 or by the rule given.
 ghost use Prim.Native.Nat.{_≤_};
 ghost use lib.ListN.{length};
 ghost use Rattle.vectors.specs.inner.Lists.{Onward};
@@ -46,10 +46,11 @@ fn label_lists(
 }
 
 // The tolerance, the ratio, the least, the greatest, the spread limit, the least quads and the least corners.
-fn params_at(text: &[u8], at: usize) -> Params
+fn params_at(text: &[u8], at: usize, rule: u32) -> Params
     requires { ⌜ at ≤ length (now text) ⌝ }
 {
     let spread = SpreadRule {
+        number: rule,
         limit: float_of(word_at(text, after(text, at, 4))),
     };
     let edges = EdgeParams {
@@ -173,11 +174,11 @@ fn with_axes(text: &[u8], at: usize, x: &[f32], y: &[f32], params: Params) -> us
 }
 
 // The parameters and the positions, then the rest.
-pub(crate) fn replay(text: &[u8], at: usize) -> usize
+pub(crate) fn replay(text: &[u8], at: usize, rule: u32) -> usize
     requires { ⌜ at ≤ length (now text) ⌝ }
     ensures { λ r. ⌜ Onward (now (text .entry)) at r ⌝ }
 {
-    let params = params_at(text, at);
+    let params = params_at(text, at, rule);
     let mut x = [0.0f32; 4104];
     let mut y = [0.0f32; 4104];
     let in_x = fill_floats(text, after(text, at, 7), &mut x);

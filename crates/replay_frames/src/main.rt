@@ -2,10 +2,11 @@
 // proved call's answer to each case and the three lists after it, and the gate compares what it wrote with the oracle's answers.
 ghost use Prim.Native.Nat.{_<_, _≤_};
 ghost use lib.ListN.{length};
+use vectors::inner::list::after;
 
 mod frames_case;
 
-// One case; one of another kind ends the file.
+// One case, by its kind; 9 is 6 behind the number of a rule; one of no known kind ends the file.
 fn replay(text: &[u8], at: usize) -> usize
     requires { ⌜ at < length (now text) ⌝ }
     ensures { λ r. ⌜ (at < r) × (r ≤ length (now (text .entry))) ⌝ }
@@ -13,10 +14,15 @@ fn replay(text: &[u8], at: usize) -> usize
     if text.len() - at < 9 {
         return text.len();
     }
-    if vectors::word_at(text, at) != 6 {
-        return text.len();
+    let kind = vectors::word_at(text, at);
+    if kind == 6 {
+        return frames_case::replay(text, at + 9, 1);
     }
-    frames_case::replay(text, at + 9)
+    if kind == 9 {
+        let rule = vectors::word_at(text, at + 9);
+        return frames_case::replay(text, after(text, at + 9, 1), rule);
+    }
+    text.len()
 }
 
 fn cases(text: &[u8]) {

@@ -1,4 +1,4 @@
-// Kind 1: the axis cache of one corner.
+// Kinds 1 and 7: the axis cache of one corner, by rule 1 or by the rule given.
 ghost use Prim.Native.Nat.{_≤_};
 ghost use lib.ListN.{length};
 ghost use Rattle.vectors.specs.inner.Lists.{Onward};
@@ -44,7 +44,7 @@ fn write_cache(cache: AxisCache) {
 }
 
 // Angle, mark and spread of slot 0, the same of slot 1, and the limit.
-pub(crate) fn replay(text: &[u8], at: usize) -> usize
+pub(crate) fn replay(text: &[u8], at: usize, rule: u32) -> usize
     requires { ⌜ at ≤ length (now text) ⌝ }
     ensures { λ r. ⌜ Onward (now (text .entry)) at r ⌝ }
 {
@@ -56,6 +56,7 @@ pub(crate) fn replay(text: &[u8], at: usize) -> usize
         float_of(word_at(text, second)),
         spread_at(text, after(text, at, 4)),
         SpreadRule {
+            number: rule,
             limit: float_of(word_at(text, limit)),
         },
     );

@@ -1,4 +1,4 @@
-// Kind 2: the classes of a frame's half-edges.
+// Kinds 2 and 8: the classes of a frame's half-edges, by rule 1 or by the rule given.
 ghost use Prim.Native.Nat.{_≤_};
 ghost use lib.ListN.{length};
 ghost use Rattle.vectors.specs.inner.Lists.{Onward};
@@ -49,10 +49,11 @@ fn classify_lists(
 }
 
 // The tolerance and the spread limit.
-fn params_at(text: &[u8], at: usize) -> EdgeParams
+fn params_at(text: &[u8], at: usize, rule: u32) -> EdgeParams
     requires { ⌜ at ≤ length (now text) ⌝ }
 {
     let spread = SpreadRule {
+        number: rule,
         limit: float_of(word_at(text, after(text, at, 1))),
     };
     EdgeParams {
@@ -120,11 +121,11 @@ fn axes(text: &[u8], at: usize, x: &[f32], y: &[f32], params: EdgeParams) -> usi
     )
 }
 
-pub(crate) fn replay(text: &[u8], at: usize) -> usize
+pub(crate) fn replay(text: &[u8], at: usize, rule: u32) -> usize
     requires { ⌜ at ≤ length (now text) ⌝ }
     ensures { λ r. ⌜ Onward (now (text .entry)) at r ⌝ }
 {
-    let params = params_at(text, at);
+    let params = params_at(text, at, rule);
     let mut x = [0.0f32; 4097];
     let mut y = [0.0f32; 4097];
     let in_x = fill_floats(text, after(text, at, 2), &mut x);

@@ -2,12 +2,13 @@
 // words. It writes the proved call's answer to each case, and the gate compares what it wrote with the oracle's answers.
 ghost use Prim.Native.Nat.{_<_, _≤_};
 ghost use lib.ListN.{length};
+use vectors::inner::list::after;
 
 mod axis_case;
 mod classes_case;
 mod quads_case;
 
-// One case, by its kind; one of no known kind ends the file.
+// One case, by its kind; kinds 7 and 8 are 1 and 2 behind the number of a rule; one of no known kind ends the file.
 fn replay(text: &[u8], at: usize) -> usize
     requires { ⌜ at < length (now text) ⌝ }
     ensures { λ r. ⌜ (at < r) × (r ≤ length (now (text .entry))) ⌝ }
@@ -17,13 +18,21 @@ fn replay(text: &[u8], at: usize) -> usize
     }
     let kind = vectors::word_at(text, at);
     if kind == 1 {
-        return axis_case::replay(text, at + 9);
+        return axis_case::replay(text, at + 9, 1);
     }
     if kind == 2 {
-        return classes_case::replay(text, at + 9);
+        return classes_case::replay(text, at + 9, 1);
     }
     if kind == 3 {
         return quads_case::replay(text, at + 9);
+    }
+    let rule = vectors::word_at(text, at + 9);
+    let behind = after(text, at + 9, 1);
+    if kind == 7 {
+        return axis_case::replay(text, behind, rule);
+    }
+    if kind == 8 {
+        return classes_case::replay(text, behind, rule);
     }
     text.len()
 }

@@ -3,7 +3,8 @@
 /// "No twin", as a list writes it.
 pub const NONE: u32 = u32::MAX;
 
-/// All parameters of a whole frame, in the order of the program's P line.
+/// All parameters of a whole frame, in the order of the program's P line. The spread rule says
+/// what a missing one is: by 1 informative, by 2 not; other numbers are refused.
 #[derive(Clone, Copy, Debug, PartialEq)]
 pub struct Params {
     pub tolerance: f32,
@@ -13,6 +14,7 @@ pub struct Params {
     pub spread_limit: f32,
     pub least_quads: u32,
     pub least_corners: u32,
+    pub spread_rule: u32,
 }
 
 impl Params {
@@ -32,6 +34,7 @@ impl Default for Params {
             spread_limit: 1.0,
             least_quads: 1,
             least_corners: 4,
+            spread_rule: 1,
         }
     }
 }

@@ -9,7 +9,9 @@ pub use filters::filters;
 pub use frames::{answer_frame, frame_words, judge_frame, label_frame};
 pub use labels::{labels, Given};
 
-use crate::judge::{counts, first_of, missing_corner, positions, repeated_corner, twins, Refusal};
+use crate::judge::{
+    counts, first_of, missing_corner, positions, repeated_corner, spread_rule, twins, Refusal, Row,
+};
 use frame::{AxisPair, Frame};
 
 const GREATEST_CLASS: u32 = 2;
@@ -45,10 +47,11 @@ pub fn records(words: &[u32]) -> Vec<[u32; 4]> {
 
 /// The axis cache of a frame's only corner.
 pub fn axis_cache(frame: &Frame) -> Result<AxisPair, Refusal> {
-    if frame.params.spread_limit.is_nan() {
-        return Err(Refusal::at(3, 4));
+    let limit = || frame.params.spread_limit.is_nan().then_some(4);
+    match first_of(&[(3, &limit), (18, &|| spread_rule(frame))]) {
+        Some(refusal) => Err(refusal),
+        None => Ok(ruled::axes(frame)[0]),
     }
-    Ok(ruled::axes(frame)[0])
 }
 
 /// Row 1 of classes: two slots a corner, whole triangles, a class for each half-edge.
@@ -72,13 +75,14 @@ fn class_parameters(frame: &Frame) -> Option<usize> {
 
 /// The classes call. The frame's twins are no part of it.
 pub fn classes(frame: &Frame, list: &mut [u32]) -> Result<(), Refusal> {
-    let rows: [&dyn Fn() -> Option<usize>; 6] = [
-        &|| unpaired_classes(frame, list),
-        &|| counts(frame),
-        &|| class_parameters(frame),
-        &|| positions(frame),
-        &|| missing_corner(&frame.triangles, frame.corners()),
-        &|| repeated_corner(&frame.triangles, 3),
+    let rows: [Row; 7] = [
+        (1, &|| unpaired_classes(frame, list)),
+        (2, &|| counts(frame)),
+        (3, &|| class_parameters(frame)),
+        (18, &|| spread_rule(frame)),
+        (4, &|| positions(frame)),
+        (5, &|| missing_corner(&frame.triangles, frame.corners())),
+        (6, &|| repeated_corner(&frame.triangles, 3)),
     ];
     if let Some(refusal) = first_of(&rows) {
         return Err(refusal);
@@ -105,13 +109,12 @@ fn missing_corner_or_class(frame: &Frame, classes: &[u32]) -> Option<usize> {
 
 /// The quads call: gives the number of quads. The frame's axes are no part of it.
 pub fn quads(frame: &Frame, classes: &[u32], list: &mut [u32]) -> Result<usize, Refusal> {
-    let rows: [&dyn Fn() -> Option<usize>; 6] = [
-        &|| unpaired_quads(frame, classes),
-        &|| counts(frame),
-        &|| None,
-        &|| positions(frame),
-        &|| missing_corner_or_class(frame, classes),
-        &|| repeated_corner(&frame.triangles, 3),
+    let rows: [Row; 5] = [
+        (1, &|| unpaired_quads(frame, classes)),
+        (2, &|| counts(frame)),
+        (4, &|| positions(frame)),
+        (5, &|| missing_corner_or_class(frame, classes)),
+        (6, &|| repeated_corner(&frame.triangles, 3)),
     ];
     if let Some(refusal) = first_of(&rows).or_else(|| twins(frame)) {
         return Err(refusal);

@@ -2,7 +2,7 @@
 // document 01's words against the ruled build.
 
 use crate::demand::fates;
-use crate::generate::{damage::damage, size, KINDS};
+use crate::generate::{damage::damage, silence::draw_rule, size, KINDS};
 use crate::judge::{judge, Refusal};
 use crate::near::{scope, Scope};
 use crate::random::Random;
@@ -58,6 +58,8 @@ pub struct Table {
     /// Their groups after the third filter: too few quads, no labelling, too few lone, kept.
     pub fates: [usize; 4],
     pub worded_first: Option<Difference>,
+    /// Accepted frames by rule 2, and those of which the components are others by rule 1.
+    pub by_rule_2: [usize; 2],
 }
 
 /// What is compared.
@@ -88,8 +90,26 @@ pub fn first_difference(a: &Stages, b: &Stages) -> Option<usize> {
     equal.iter().position(|same| !same)
 }
 
-/// The frame with this number in a run: its kind's place and, for damaged ones, what it must get.
+/// The frame with this number in a run: its kind's place and, where it is refused, what it must get.
 pub fn frame_of(seed: u64, number: usize) -> (usize, Frame, Option<Refusal>) {
+    let (place, mut frame, damaged) = by_rule_1(seed, number);
+    give_rule(&mut frame, seed, number);
+    let first = damaged.filter(|refusal| refusal.row <= 3);
+    let row_18 = (!matches!(frame.params.spread_rule, 1 | 2)).then_some(Refusal::at(18, 0));
+    (place, frame, first.or(row_18).or(damaged))
+}
+
+/// Draws the spread rule for the frame with this number, from numbers that nothing else of the
+/// frame is drawn from.
+pub fn give_rule(frame: &mut Frame, seed: u64, number: usize) {
+    draw_rule(frame, &mut Random::part(seed ^ RULES, number as u64));
+}
+
+/// Parts the seed of the rules from that of the frames.
+const RULES: u64 = 18 << 32;
+
+/// The frame as it is before it is given a rule; for damaged ones, what it must get.
+fn by_rule_1(seed: u64, number: usize) -> (usize, Frame, Option<Refusal>) {
     let mut random = Random::part(seed, number as u64);
     let place = number % (KINDS.len() + 1);
     if let Some((_, make)) = KINDS.get(place) {
@@ -173,6 +193,16 @@ impl Table {
         self.worded_first.get_or_insert_with(|| difference(number, kind, stage, false, frame));
     }
 
+    /// Holds an accepted frame by rule 2 against the same by rule 1.
+    fn add_rule(&mut self, frame: &Frame, ruled: &Stages, by: fn(&Frame) -> Stages) {
+        if frame.params.spread_rule == 2 {
+            let mut other = frame.clone();
+            other.params.spread_rule = 1;
+            self.by_rule_2[0] += 1;
+            self.by_rule_2[1] += (by(&other).components != ruled.components) as usize;
+        }
+    }
+
     fn add(&mut self, sides: &Sides, seed: u64, number: usize) {
         let (place, frame, expected) = frame_of(seed, number);
         let refusal = (sides.judge)(&frame);
@@ -197,6 +227,7 @@ impl Table {
             self.keep(found, scope.narrow, answers);
         }
         self.add_words(sides.words, number, kind, &frame, &by_ruled);
+        self.add_rule(&frame, &by_ruled, sides.ruled);
     }
 
     /// Whether nothing parts that document 01 wants equal.

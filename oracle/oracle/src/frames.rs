@@ -5,7 +5,7 @@
 use std::collections::HashSet;
 
 use crate::calls::{answer_frame, judge_frame};
-use crate::compare::frame_of;
+use crate::compare::{frame_of, give_rule};
 use crate::generate::{damage::damage, torus, KINDS};
 use crate::judge::{judge, Refusal, MOST_CORNERS, MOST_HALF_EDGES};
 use crate::near::{scope, Scope};
@@ -32,7 +32,9 @@ pub struct Between {
     pub marks: Vec<u32>,
 }
 
-/// What the unchanged Rust gives, and the two readings of "no near case occurs".
+/// What the unchanged Rust gives, and the two readings of "no near case occurs". It has rule 1 of
+/// spreads alone, and document 02 owes equality by that one only; by rule 2 it is given NaN for each
+/// missing spread, so that it can be compared there too.
 #[derive(Clone, Debug)]
 pub struct Unchanged {
     pub between: Between,
@@ -71,12 +73,14 @@ fn full(random: &mut Random) -> (&'static str, Frame) {
 }
 
 /// Frame number `number` of a run: all kinds in turn, of many sizes, the last of each turn damaged,
-/// at times a full one;
+/// at times a full one; a third by rule 2 of spreads, at times a number that is no rule;
 /// workspace and room mostly enough, at times short.
 pub fn drawn(seed: u64, number: usize) -> Drawn {
     let mut random = Random::part(!seed, number as u64);
     let (kind, frame) = if number % FULL == FULL - 1 {
-        full(&mut random)
+        let (kind, mut frame) = full(&mut random);
+        give_rule(&mut frame, seed, number);
+        (kind, frame)
     } else {
         let (place, frame, _) = frame_of(seed, number);
         (KINDS.get(place).map_or("damaged", |kind| kind.0), frame)

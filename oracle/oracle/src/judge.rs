@@ -57,6 +57,11 @@ fn parameters(frame: &Frame) -> Option<usize> {
     frame.params.floats().iter().position(|p| p.is_nan())
 }
 
+/// Row 18: neither of the two spread rules.
+pub(crate) fn spread_rule(frame: &Frame) -> Option<usize> {
+    (!matches!(frame.params.spread_rule, 1 | 2)).then_some(0)
+}
+
 pub(crate) fn positions(frame: &Frame) -> Option<usize> {
     let inside = |p: f32| p.is_finite() && p.abs() <= GREATEST_POSITION;
     (0..frame.corners()).find(|&c| !inside(frame.x[c]) || !inside(frame.y[c]))
@@ -99,13 +104,14 @@ pub(crate) fn twins(frame: &Frame) -> Option<Refusal> {
 
 /// The refusal of a frame, or None where it is accepted.
 pub fn judge(frame: &Frame) -> Option<Refusal> {
-    let rows: [&dyn Fn() -> Option<usize>; 6] = [
-        &|| lengths(frame),
-        &|| counts(frame),
-        &|| parameters(frame),
-        &|| positions(frame),
-        &|| missing_corner(&frame.triangles, frame.corners()),
-        &|| repeated_corner(&frame.triangles, 3),
+    let rows: [Row; 7] = [
+        (1, &|| lengths(frame)),
+        (2, &|| counts(frame)),
+        (3, &|| parameters(frame)),
+        (18, &|| spread_rule(frame)),
+        (4, &|| positions(frame)),
+        (5, &|| missing_corner(&frame.triangles, frame.corners())),
+        (6, &|| repeated_corner(&frame.triangles, 3)),
     ];
     first_of(&rows).or_else(|| twins(frame))
 }
@@ -122,21 +128,22 @@ pub(crate) fn quad_counts(quads: &[u32], corners: usize) -> Option<usize> {
 
 /// The refusals of labelling alone that a quad list and a number of corners can have.
 pub fn judge_quads(quads: &[u32], corners: usize) -> Option<Refusal> {
-    let rows: [&dyn Fn() -> Option<usize>; 6] = [
-        &|| whole_quads(quads),
-        &|| quad_counts(quads, corners),
-        &|| None,
-        &|| None,
-        &|| missing_corner(quads, corners),
-        &|| repeated_corner(quads, 4),
+    let rows: [Row; 4] = [
+        (1, &|| whole_quads(quads)),
+        (2, &|| quad_counts(quads, corners)),
+        (5, &|| missing_corner(quads, corners)),
+        (6, &|| repeated_corner(quads, 4)),
     ];
     first_of(&rows)
 }
 
-/// Tries rows 1, 2, ... in turn; a later one is looked at only when those before it pass.
-pub(crate) fn first_of(rows: &[&dyn Fn() -> Option<usize>]) -> Option<Refusal> {
-    rows.iter().zip(1..).find_map(|(row, number)| {
+/// A row's number, and the place at which it refuses.
+pub(crate) type Row<'a> = (u32, &'a dyn Fn() -> Option<usize>);
+
+/// Tries rows in the order given; a later one is looked at only when those before it pass.
+pub(crate) fn first_of(rows: &[Row]) -> Option<Refusal> {
+    rows.iter().find_map(|(number, row)| {
         let place = row()? as u32;
-        Some(Refusal::at(number, place))
+        Some(Refusal::at(*number, place))
     })
 }

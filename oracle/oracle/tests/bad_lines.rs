@@ -32,6 +32,9 @@ fn written_and_read_again() {
     let mut random = Random::new(5);
     let text = some_text(&mut random);
     assert_eq!(write(&read(text.as_bytes()).unwrap()), text);
+    let by = |rule: &str| text.replacen('\n', &format!("{rule}\n"), 1);
+    let again = |rule: &str| write(&read(by(rule).as_bytes()).unwrap());
+    assert_eq!([again(" 1"), again(" 2"), again(" 4294967295")], ["", " 2", " 4294967295"].map(by));
 }
 
 const P: &str = "P 3E800000 3FC00000 3F000000 40000000 3F800000 1 4\n";
@@ -52,6 +55,10 @@ fn by_hand() {
     bad(&format!("{P}T 0 1 2 - -\n"), 2);
     bad(&format!("{P}T 0 1 - - - -\n"), 2);
     bad(&format!("{P}C 00000000 00000000 - - 00000000 -\n"), 2);
+    for rule in ["", "01", "-", "+1", "4294967296", "A", "1 ", " 1", "1 1"] {
+        bad(&P.replace('\n', &format!(" {rule}\n")), 1);
+    }
+    bad(&(P.replace('\n', " 3\n") + C + "x"), 3);
 }
 
 #[test]
@@ -61,4 +68,6 @@ fn not_bad() {
     is(&format!("{P}T 0 1 2 - - -\n"), "refused 5 0\n");
     is(&format!("{P}{}", "T 0 1 2 - - -\n".repeat(256)), "refused 5 0\n");
     is(&P.replace("3E800000", "FFFFFFFF"), "refused 3 0\n");
+    is(&P.replace('\n', " 2\n"), "components 0\n");
+    is(&P.replace('\n', " 4294967295\n"), "refused 18 0\n");
 }

@@ -1,7 +1,7 @@
 // The calls of the stages by hand: document 01's words on classes, on room and on what stays.
 
 use frame::{Frame, NONE};
-use oracle::calls::{axis_cache, classes, quads};
+use oracle::calls::{axis_cache, classes, filters, quads};
 use oracle::judge::Refusal;
 use rules::HALF_PI;
 
@@ -65,6 +65,28 @@ fn spreads_and_marks() {
 }
 
 #[test]
+fn the_rule_of_spreads() {
+    let mut frame = square();
+    frame.marks = vec![0, 1, 1, 1, 1, 1, 1, 1];
+    let informative = |frame: &Frame| axis_cache(frame).map(|pair| pair.informative);
+    assert_eq!((classes_of(&frame), informative(&frame)), (QUAD.to_vec(), Ok([true; 2])));
+    frame.params.spread_rule = 2;
+    assert_eq!(classes_of(&frame), [0, 1, 0, 2, 1, 1]);
+    assert_eq!(informative(&frame), Ok([false, true]));
+    frame.spreads[1] = frame.params.spread_limit;
+    assert_eq!(informative(&frame), Ok([false; 2]));
+    for rule in [0, 3, u32::MAX] {
+        frame.params.spread_rule = rule;
+        let mut list = [7; 6];
+        assert_eq!((classes(&frame, &mut list), list), (refused(18, 0), [7; 6]));
+        assert_eq!(informative(&frame), refused(18, 0));
+    }
+    frame.params.spread_limit = f32::NAN;
+    assert_eq!(informative(&frame), refused(3, 4));
+    assert_eq!(classes(&frame, &mut [7; 6]), refused(3, 4));
+}
+
+#[test]
 fn room() {
     let frame = square();
     for length in 0..12 {
@@ -122,5 +144,7 @@ fn rows_that_a_call_lacks() {
     let mut frame = square();
     frame.angles.clear();
     frame.params.tolerance = f32::NAN;
+    frame.params.spread_rule = 3;
     assert_eq!(quads(&frame, &QUAD, &mut [0; 4]), Ok(1));
+    assert_eq!(filters(&frame, &[0, 1, 2, 3], &mut [0; 96], &mut [0; 4]), Ok(1));
 }

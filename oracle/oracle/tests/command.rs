@@ -61,7 +61,7 @@ fn words_that_are_read() {
 
 #[test]
 fn frames_that_a_row_refuses() {
-    for row in [3, 4, 5, 6, 7, 11, 12] {
+    for row in [3, 4, 5, 6, 7, 11, 12, 18] {
         for seed in 0..5 {
             let said = oracle(&format!("frames row{row} {seed} 1")).stdout;
             let heading = format!("# row{row}-{seed}-0\n");
@@ -79,7 +79,7 @@ fn no_word_is_refused_with_the_list() {
 }
 
 /// Counts and seeds that are none, words that nothing is called, words missing and too many.
-const REFUSED: [&str; 29] = [
+const REFUSED: [&str; 30] = [
     "compare 1e6 1",
     "compare 1,000 1",
     "compare -1 1",
@@ -99,6 +99,7 @@ const REFUSED: [&str; 29] = [
     "frames perfect 1",
     "frames nothing 1 1",
     "frames row8 1 1",
+    "frames row13 1 1",
     "label 1 x",
     "label 1 1 4096 1",
     "quads sheet 1 1",

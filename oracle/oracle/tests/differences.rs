@@ -3,6 +3,7 @@
 
 use frame::{Frame, NONE};
 use oracle::judge::{judge, Refusal};
+use oracle::words;
 use std::panic::catch_unwind;
 
 /// Corners at (0,0), both axes at angle 0 and without spreads, and triangles without twins.
@@ -39,9 +40,12 @@ fn what_the_rust_answers_and_the_table_refuses() {
         wrong.twins[0] = twin;
         wrong
     };
+    let mut no_rule = frame(0, &[]);
+    no_rule.params.spread_rule = 0;
     let answered = [
         (frame(4_097, &[]), refused(2, 0)),
         (nan_tolerance, refused(3, 0)),
+        (no_rule, refused(18, 0)),
         (nan_position, refused(4, 0)),
         (frame(1, &[0, 0, 0]), refused(6, 0)),
         (with_twin(3), Some(Refusal { row: 7, place: 0, beside: 3 })),
@@ -51,6 +55,17 @@ fn what_the_rust_answers_and_the_table_refuses() {
     for (frame, refusal) in answered {
         assert_eq!((found(&frame), judge(&frame)), (Some(0), refusal));
     }
+}
+
+/// By rule 2, which the Rust has not, a missing spread does not inform.
+#[test]
+fn a_missing_spread() {
+    let rust = frame(1, &[]);
+    let mut second = rust.clone();
+    second.params.spread_rule = 2;
+    let informative = |frame: &Frame| words::axes(frame)[0].informative;
+    assert_eq!((plain::run(&rust).axes[0].informative, informative(&rust)), ([true; 2], [true; 2]));
+    assert_eq!((judge(&second), informative(&second)), (None, [false; 2]));
 }
 
 #[test]

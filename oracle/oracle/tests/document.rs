@@ -60,6 +60,29 @@ fn refusals_of_twins() {
     assert_eq!(answer(repeated.as_bytes(), Build::Ruled), "refused 6 1\n");
 }
 
+/// Document 01's text has no spreads: by rule 2 no axis informs. Without an eighth field it is by
+/// rule 1.
+#[test]
+fn the_rule_of_spreads() {
+    let by = |text: &str, rule: &str| {
+        let text = text.replacen('\n', &format!("{rule}\n"), 1);
+        [Build::Plain, Build::Ruled].map(|build| answer(text.as_bytes(), build))
+    };
+    let both = |said: &str| [said.to_string(), said.to_string()];
+    for (rule, said) in [("", FRAME_ANSWER), (" 1", FRAME_ANSWER), (" 2", "components 0\n")] {
+        assert_eq!(by(FRAME, rule), both(said));
+    }
+    for rule in [" 0", " 3", " 4294967295"] {
+        assert_eq!(by(FRAME, rule), both("refused 18 0\n"));
+        assert_eq!(by(&FRAME.replace("P 3E800000", "P 7FC00000"), rule), both("refused 3 0\n"));
+        assert_eq!(by(&FRAME.replace("C 41200000", "C 7FC00000"), rule), both("refused 18 0\n"));
+    }
+    let spoken = FRAME.replace(" -\nC", " 3F000000\nC").replace(" - 3FC", " 3F000000 3FC");
+    assert_eq!(by(&spoken, " 2"), both("components 0\n"), "the last spread is missing");
+    let spoken = spoken.replace(" -\nT 0 1", " 3F000000\nT 0 1");
+    assert_eq!(by(&spoken, " 2"), both(FRAME_ANSWER));
+}
+
 #[test]
 fn two_quads_side_by_side() {
     let expected = "components 1\ncomponent 0 6 0\n0 0 0\n0 1 3\n1 0 1\n1 1 2\n2 0 4\n2 1 5\n";

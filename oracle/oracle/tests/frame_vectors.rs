@@ -4,13 +4,15 @@ mod common {
     pub mod cases;
     pub mod files;
     pub mod labelled;
+    pub mod rules;
 }
 
 use common::cases::{either_side, parts, sound};
 use common::files::read_back;
 use common::labelled::{as_wanted, words_of};
+use common::rules::{check_words, told_apart};
 use oracle::judge::Refusal;
-use oracle::vectors::frames::{frame_cases, write_frames, Case, Summary};
+use oracle::vectors::frames::{frame_cases, rule_cases, write_frames, Case, Summary};
 use oracle::vectors::{Summed, Vector};
 use oracle::words;
 
@@ -26,10 +28,29 @@ fn every_row() {
     assert!(summary.components[0] >= 2 && summary.components[1] >= 40);
 }
 
+/// The cases by a spread rule.
+fn inner_cases() -> Vec<Case> {
+    rule_cases().into_iter().map(|case| case.0).collect()
+}
+
+#[test]
+fn every_row_by_a_rule() {
+    let counts = Summary::of(&inner_cases()).counts;
+    assert_eq!(counts.rows(), [1, 2, 3, 4, 5, 6, 7, 8, 9, 10, 11, 12, 18]);
+    assert!(counts.refused[&18] >= 25);
+}
+
+#[test]
+fn the_rules_part() {
+    let [parted, same] = told_apart(rule_cases().iter());
+    assert!(parted >= 25 && same >= 15, "{parted} {same}");
+}
+
 /// What the arrays of the program that replays the cases must hold.
 #[test]
 fn longest_lists() {
-    let longest = Summary::of(&frame_cases()).longest;
+    let all: Vec<Case> = frame_cases().into_iter().chain(inner_cases()).collect();
+    let longest = Summary::of(&all).longest;
     assert_eq!(longest[..7], [4_097, 4_097, 8_194, 8_194, 8_194, 24_579, 24_579]);
     assert!(longest[7] <= 65_700 && longest[8] <= 12_300 && longest[9] <= 49_164);
 }
@@ -54,7 +75,7 @@ fn as_the_words_say(case: &Case) {
 
 #[test]
 fn words_beside_the_ruled_build() {
-    frame_cases().iter().for_each(as_the_words_say);
+    frame_cases().iter().chain(&inner_cases()).for_each(as_the_words_say);
 }
 
 #[test]
@@ -110,8 +131,9 @@ fn check_line(line: &str, case: &Case) {
 
 #[test]
 fn files() {
-    let cases = frame_cases();
+    let (cases, by_rule) = (frame_cases(), rule_cases());
     let (lines, answer_lines) = read_back("frame", write_frames);
-    assert_eq!((lines.len(), answer_lines), (cases.len(), 4 * cases.len()));
+    assert_eq!(answer_lines, 4 * (cases.len() + by_rule.len()));
     lines.iter().zip(&cases).for_each(|(line, case)| check_line(line, case));
+    check_words(&lines[cases.len()..], &by_rule, |word| word + 3);
 }

@@ -16,7 +16,7 @@ fn kept(between: &Between) -> Vec<[u32; 4]> {
 fn what_is_expected() {
     let (mut kinds, mut rows) = (BTreeMap::<&str, usize>::new(), BTreeMap::<u32, usize>::new());
     let (mut marks, mut most) = ([0; 4], [0; 2]);
-    for number in 0..1_000 {
+    for number in 0..1_500 {
         let frame = drawn(7, number);
         *kinds.entry(frame.kind).or_default() += 1;
         let found = expected(&frame.case);
@@ -42,8 +42,28 @@ fn what_is_expected() {
     }
     assert_eq!(kinds.len(), 17);
     assert_eq!(most, [4_096, 24_576]);
-    assert!(rows.keys().copied().eq(1..=12), "{rows:?}");
+    assert!(rows.keys().copied().eq((1..=12).chain([18])), "{rows:?}");
     assert!(marks.iter().all(|&count| count > 100), "{marks:?}");
+}
+
+/// A third is by rule 2, of which many have another answer by rule 1; a few are by no rule, and the
+/// others by rule 1.
+#[test]
+fn rules_of_spreads() {
+    let (mut rules, mut parted) = (BTreeMap::<u32, usize>::new(), 0);
+    for number in 0..1_000 {
+        let case = drawn(7, number).case;
+        let rule = case.frame.params.spread_rule;
+        *rules.entry(if matches!(rule, 1 | 2) { rule } else { 0 }).or_default() += 1;
+        if rule == 2 && judge(&case.frame).is_none() {
+            let mut other = case.frame.clone();
+            other.params.spread_rule = 1;
+            parted +=
+                (ruled::run(&other).components != ruled::run(&case.frame).components) as usize;
+        }
+    }
+    assert!(rules[&0] >= 10 && (250..420).contains(&rules[&2]), "{rules:?}");
+    assert!(parted >= 60, "{parted}");
 }
 
 #[test]

@@ -55,6 +55,28 @@ fn rows_1_to_3() {
     assert_eq!(after(|f| f.params.spread_limit = -f32::NAN), Some((3, 4)));
 }
 
+/// Of the two spread rules one is there, behind row 3 and before row 4.
+#[test]
+fn row_18() {
+    for rule in [0, 3, 257, 258, 1 << 31, u32::MAX] {
+        assert_eq!(after(|f| f.params.spread_rule = rule), Some((18, 0)));
+    }
+    assert_eq!(after(|f| f.params.spread_rule = 2), None);
+    let with = |change: fn(&mut Frame)| {
+        after(|f| {
+            f.params.spread_rule = 3;
+            change(f);
+        })
+    };
+    assert_eq!(with(|f| f.y.truncate(3)), Some((1, 0)));
+    assert_eq!(with(|f| f.params.tolerance = f32::NAN), Some((3, 0)));
+    assert_eq!(with(|f| f.params.spread_limit = f32::NAN), Some((3, 4)));
+    assert_eq!(with(|f| f.x[0] = f32::NAN), Some((18, 0)));
+    assert_eq!(with(|f| f.triangles[5] = 4), Some((18, 0)));
+    assert_eq!(with(|f| f.triangles[4] = 0), Some((18, 0)));
+    assert_eq!(with(|f| f.twins[4] = 6), Some((18, 0)));
+}
+
 #[test]
 fn rows_4_to_6() {
     assert_eq!(after(|f| f.y[2] = f32::INFINITY), Some((4, 2)));
@@ -94,13 +116,14 @@ fn the_first_half_edge_before_the_lower_row() {
 fn generated() {
     let make = maker("warped").unwrap();
     let mut rows = BTreeSet::new();
-    for i in 0..700 {
+    for i in 0..800 {
         let mut random = Random::part(7, i);
         let mut frame = make(20, &mut random);
         assert_eq!(judge(&frame), None);
-        let expected = damage(1 + (i % 7) as u32, &mut frame, &mut random);
+        let row = [1, 2, 3, 18, 4, 5, 6, 7][i as usize % 8];
+        let expected = damage(row, &mut frame, &mut random);
         assert_eq!(judge(&frame), Some(expected), "frame {i}");
         rows.insert(expected.row);
     }
-    assert!(rows.into_iter().eq([1, 2, 3, 4, 5, 6, 7, 11, 12]));
+    assert!(rows.into_iter().eq([1, 2, 3, 4, 5, 6, 7, 11, 12, 18]));
 }

@@ -2,13 +2,21 @@
 
 mod common {
     pub mod files;
+    pub mod rules;
 }
 
 use common::files::read_back;
+use common::rules::{check_words, told_apart};
+use oracle::calls::axis_cache;
 use oracle::told::Told;
-use oracle::vectors::stages::{stage_cases, write_stages, Answer, Case, Kind, Summary};
+use oracle::vectors::stages::{rule_cases, stage_cases, write_stages, Answer, Case, Kind, Summary};
 use oracle::vectors::{Summed, Vector};
 use oracle::words;
+
+/// Every case, whatever the spread rule.
+fn all_cases() -> Vec<Case> {
+    stage_cases().into_iter().chain(rule_cases().into_iter().map(|case| case.0)).collect()
+}
 
 #[test]
 fn every_row_of_every_call() {
@@ -23,12 +31,54 @@ fn every_row_of_every_call() {
     }
 }
 
+#[test]
+fn every_row_by_a_rule() {
+    let cases: Vec<Case> = rule_cases().into_iter().map(|case| case.0).collect();
+    let [axis, classes, quads] = Summary::of(&cases).counts;
+    assert_eq!(axis.rows(), [3, 18]);
+    assert_eq!(classes.rows(), [1, 2, 3, 4, 5, 6, 18]);
+    assert_eq!(quads.cases, 0);
+    assert!(axis.refused[&18] >= 12 && classes.refused[&18] >= 12);
+}
+
+#[test]
+fn the_rules_part() {
+    let cases = rule_cases();
+    let of = |kind: Kind| cases.iter().filter(move |case| case.0.kind == kind);
+    for kind in [Kind::Axis, Kind::Classes] {
+        let [parted, same] = told_apart(of(kind));
+        assert!(parted >= 30 && same >= 7, "{parted} {same}");
+    }
+}
+
+/// An axis that is informative by rule 2 is so by rule 1.
+#[test]
+fn rule_2_within_rule_1() {
+    let (mut both, mut first_alone) = (0, 0);
+    for case in all_cases().into_iter().filter(|case| case.kind == Kind::Axis) {
+        let by = |rule: u32| {
+            let mut frame = case.frame.clone();
+            frame.params.spread_rule = rule;
+            axis_cache(&frame).map_or([false; 2], |pair| pair.informative)
+        };
+        for (first, second) in by(1).into_iter().zip(by(2)) {
+            assert!(first || !second);
+            both += second as usize;
+            first_alone += (first && !second) as usize;
+        }
+    }
+    assert!(both > 200 && first_alone > 200, "{both} {first_alone}");
+}
+
 /// A refused list stays; an accepted one is what the words say, and its tail stays.
 fn as_the_words_say(case: &Case) {
     let frame = &case.frame;
     match case.answer() {
         Answer::Axis(Ok(pair)) => assert!(pair.same(&words::axes(frame)[0])),
-        Answer::Axis(Err(_)) => assert!(frame.params.spread_limit.is_nan()),
+        Answer::Axis(Err(refusal)) => match refusal.row {
+            3 => assert!(frame.params.spread_limit.is_nan()),
+            _ => assert!(!(1..=2).contains(&frame.params.spread_rule)),
+        },
         Answer::Classes(Told { result: Err(_), lists }) => assert_eq!(lists, [&case.classes[..]]),
         Answer::Classes(Told { result: Ok([]), lists }) => {
             assert_eq!(lists, [words::classes(frame, &words::axes(frame))]);
@@ -44,7 +94,7 @@ fn as_the_words_say(case: &Case) {
 
 #[test]
 fn words_beside_the_ruled_build() {
-    stage_cases().iter().for_each(as_the_words_say);
+    all_cases().iter().for_each(as_the_words_say);
 }
 
 /// Twins of an accepted case whose classes differ.
@@ -71,8 +121,9 @@ fn what_the_quads_cases_hold() {
 
 #[test]
 fn files() {
-    let [axis, classes, quads] = Summary::of(&stage_cases()).counts.map(|counts| counts.cases);
+    let [axis, classes, quads] = Summary::of(&all_cases()).counts.map(|counts| counts.cases);
     let (lines, answer_lines) = read_back("stage", write_stages);
     assert_eq!(lines.len(), axis + classes + quads);
     assert_eq!(answer_lines, axis + 2 * (classes + quads));
+    check_words(&lines[stage_cases().len()..], &rule_cases(), |word| word + 6);
 }

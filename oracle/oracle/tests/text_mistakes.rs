@@ -16,7 +16,8 @@ struct Rules {
     taken: Box<dyn Fn(&str) -> String>,
     float: Box<dyn Fn(&str) -> bool>,
     whole: Box<dyn Fn(&str) -> bool>,
-    /// The fields of each letter: h a float, H that or a minus, d a decimal, D that or a minus.
+    /// The fields of each letter: h a float, H that or a minus, d a decimal, D that or a minus, o a
+    /// decimal at the end that may be left out, O that or a minus.
     forms: [(&'static str, &'static str); 3],
     /// Whether a line of this letter may follow so many of each letter.
     follows: fn(usize, [usize; 3]) -> bool,
@@ -40,7 +41,7 @@ fn follows(letter: usize, [p, c, t]: [usize; 3]) -> bool {
     }
 }
 
-const FORMS: [(&str, &str); 3] = [("P", "hhhhhdd"), ("C", "hhhHhH"), ("T", "dddDDD")];
+const FORMS: [(&str, &str); 3] = [("P", "hhhhhddo"), ("C", "hhhHhH"), ("T", "dddDDD")];
 
 fn right() -> Rules {
     Rules {
@@ -57,7 +58,7 @@ fn right() -> Rules {
 impl Rules {
     fn readable(&self, form: char, field: &str) -> bool {
         match form {
-            'H' | 'D' if field == "-" => true,
+            'H' | 'D' | 'O' if field == "-" => true,
             'h' | 'H' => (self.float)(field),
             _ => (self.whole)(field),
         }
@@ -71,7 +72,8 @@ impl Rules {
         let form = self.forms[letter].1;
         let readable = |(form, field): (char, &&str)| self.readable(form, field);
         let all = form.chars().zip(&fields[1..]).all(readable);
-        (all && fields.len() == form.len() + 1).then_some(letter)
+        let counts = form.trim_end_matches(['o', 'O']).len()..=form.len();
+        (all && counts.contains(&(fields.len() - 1))).then_some(letter)
     }
 
     /// The number of the first bad line, if there is one. Each byte is a character.
@@ -115,7 +117,7 @@ fn digits(count: usize, field: &str) -> bool {
     field.len() == count && all && !field.starts_with('0')
 }
 
-const MISTAKES: [Mistake<Rules>; 24] = [
+const MISTAKES: [Mistake<Rules>; 28] = [
     ("lower-case digits", |r| floats(r, str::to_uppercase)),
     ("a lower-case letter", |r| {
         take(r, |line| line.replacen('p', "P", 1).replacen('c', "C", 1).replacen('t', "T", 1))
@@ -140,6 +142,10 @@ const MISTAKES: [Mistake<Rules>; 24] = [
     ("a minus for a corner", |r| r.forms[2].1 = "DDDDDD"),
     ("a minus for an angle", |r| r.forms[1].1 = "hhHHHH"),
     ("no minus for a twin", |r| r.forms[2].1 = "dddddd"),
+    ("no spread rule", |r| r.forms[0].1 = "hhhhhdd"),
+    ("a spread rule wanted", |r| r.forms[0].1 = "hhhhhddd"),
+    ("a field behind the rule", |r| r.forms[0].1 = "hhhhhddoo"),
+    ("a minus for a rule", |r| r.forms[0].1 = "hhhhhddO"),
     ("P twice", |r| r.follows = |letter, seen| letter == 0 || follows(letter, seen)),
     ("C after T", |r| {
         r.follows = |letter, [p, c, t]| follows(letter, [p, c, if letter == 1 { 0 } else { t }])
@@ -182,7 +188,7 @@ fn in_one_place() -> Vec<(String, Rules)> {
         let name = format!("a comma before field {place} of {letter}");
         wrong(name, right(), |r| take(r, move |line| blank_for(line, letter, place)))
     });
-    let decimals = places.iter().filter(|(_, _, kind)| "dD".contains(*kind));
+    let decimals = places.iter().filter(|(_, _, kind)| "dDo".contains(*kind));
     let long = decimals.map(|&(letter, place, _)| {
         let name = format!("eleven digits in field {place} of {letter}");
         wrong(name, right(), |r| take(r, move |line| short_for(line, letter, place)))

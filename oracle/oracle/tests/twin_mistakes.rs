@@ -49,7 +49,7 @@ impl Rules {
     fn refusal(&self, case: &Case) -> Option<Refusal> {
         let other = case.refusal.filter(|refusal| !TWIN_ROWS.contains(&refusal.row));
         match other {
-            Some(refusal) if refusal.row < 7 => other,
+            Some(refusal) if refusal.row < 7 || refusal.row == 18 => other,
             _ => self.twins.refusal(&case.frame).or(other),
         }
     }

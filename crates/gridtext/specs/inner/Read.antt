@@ -10,15 +10,24 @@ use Rattle.gridtext.specs.declared.FrameRead.{FrameRead}
 use Rattle.gridtext.specs.declared.inner.line.Next.{Next}
 use Rattle.gridtext.specs.declared.Parsed.{Parsed}
 use Rattle.gridtext.specs.declared.inner.row.Sort.{Sort}
-use Rattle.gridtext.specs.Lines.{ParamsLine, CornerLine, TriangleLine, Line, lineOf, printed, LineWords}
+use Rattle.gridtext.specs.Lines.{Optional, ParamsLine, CornerLine, TriangleLine, Line, lineOf, printed, LineWords}
 use Rattle.gridtext.specs.inner.Rows.{spreadWords}
-use Rattle.gridtext.specs.Lists.{twinWord, paramsOf}
+use Rattle.gridtext.specs.Lists.{twinWord, ruleOf, paramsOf}
 use Rattle.gridtext.specs.Text.{Frame, Reads, Bad}
 
 -- ---- the words of lines
 
-unfoldable pub paramWords : ParamsLine → List ℕ
-paramWords p = p .tolerance ∷ p .ratio ∷ p .least ∷ p .greatest ∷ p .limit ∷ p .quads ∷ p .corners ∷ []
+unfoldable pub paramWords : ParamsLine → (rule : List ℕ) → List ℕ
+paramWords p rule = p .tolerance ∷ p .ratio ∷ p .least ∷ p .greatest ∷ p .limit ∷ p .quads ∷ p .corners ∷ rule
+
+-- a rule that is left out gives no word
+unfoldable pub ruleWords : Optional → List ℕ
+ruleWords Optional.absent = []
+ruleWords (Optional.given v) = v ∷ []
+
+-- all parameters, the rule that counts among them
+unfoldable pub allParams : ParamsLine → List ℕ
+allParams p = paramWords p (ruleOf (p .rule) ∷ [])
 
 unfoldable pub cornerWords : CornerLine → List ℕ
 cornerWords c = c .x ∷ c .y ∷ c .angle0 ∷ (spreadWords (c .spread0) ++ (c .angle1 ∷ spreadWords (c .spread1)))
@@ -27,7 +36,7 @@ unfoldable pub triangleWords : TriangleLine → List ℕ
 triangleWords t = t .a ∷ t .b ∷ t .c ∷ twinWord (t .twin0) ∷ twinWord (t .twin1) ∷ twinWord (t .twin2) ∷ []
 
 unfoldable pub lineWords : Line → List ℕ
-lineWords (Line.params p) = paramWords p
+lineWords (Line.params p) = paramWords p (ruleWords (p .rule))
 lineWords (Line.corner c) = cornerWords c
 lineWords (Line.triangle t) = triangleWords t
 
@@ -40,14 +49,19 @@ allWords words (a ∷ as') = words a ++ allWords words as'
 abbrev pub Laid : List ℕ → List ℕ → List ℕ → Type 0
 Laid words before after = after ≡ words ++ drop (length words) before
 
--- the parameters of whichever P line's words the list begins with
+-- these are the parameters of every P line whose words, with the rule that counts, the list begins with
 abbrev pub ParamsStanding : List ℕ → Params → Type 0
-ParamsStanding words params = (p : ParamsLine) → take (length (paramWords p)) words ≡ paramWords p → params ≡ paramsOf p
+ParamsStanding words params = (p : ParamsLine) → take (length (allParams p)) words ≡ allParams p → params ≡ paramsOf p
 
 -- ---- one line of a sort, and a run of them
 
+-- a P line is of one sort or another as it gives the rule or not
+unfoldable pub paramsSort : Optional → Sort
+paramsSort Optional.absent = Sort.Params
+paramsSort (Optional.given v) = Sort.Ruled
+
 unfoldable pub sortOf : Line → Sort
-sortOf (Line.params p) = Sort.Params
+sortOf (Line.params p) = paramsSort (p .rule)
 sortOf (Line.corner c) = Sort.Corner
 sortOf (Line.triangle t) = Sort.Triangle
 
@@ -66,6 +80,11 @@ pub record LineStands (text : List ℕ) (at : ℕ) (l : Line) (next : ℕ) : Typ
 pub data LineAt (sort : Sort) (text : List ℕ) (at : ℕ) (out : List ℕ) : Next → Type 0 where
   nothing : NoLine sort text at → LineAt sort text at out Next.Nothing
   found : {l : Line} {next : ℕ} → Of sort l → LineStands text at l next → take (length (lineWords l)) out ≡ lineWords l → LineAt sort text at out (Next.At next)
+
+-- the text begins with a P line, whose parameters the list begins with, or with none
+pub data ParamsAt (text out : List ℕ) : Next → Type 0 where
+  nothing : NoLine Sort.Params text 0 → NoLine Sort.Ruled text 0 → ParamsAt text out Next.Nothing
+  found : {p : ParamsLine} {next : ℕ} → LineWords (Line.params p) → LineStands text 0 (Line.params p) next → take (length (allParams p)) out ≡ allParams p → ParamsAt text out (Next.At next)
 
 -- from `at` on stand so many lines of the sort, as many as there are or `most` of them; their words are laid
 pub record LinesAt (sort : Sort) (most : ℕ) (text : List ℕ) (at : ℕ) (before after : List ℕ) (count next : ℕ) : Type 0 where

@@ -18,11 +18,17 @@ use Rattle.gridtext.specs.Lists.{twinWord, wordOf}
 
 abbrev pub letterOf : Sort → ℕ
 letterOf Sort.Params = 80
+letterOf Sort.Ruled = 80
 letterOf Sort.Corner = 67
 letterOf Sort.Triangle = 84
 
+-- those of a P line up to the least quads, and then the rest
+abbrev pub paramKinds : List Kind → List Kind
+paramKinds rest = Kind.Hex ∷ Kind.Hex ∷ Kind.Hex ∷ Kind.Hex ∷ Kind.Hex ∷ Kind.Decimal ∷ rest
+
 abbrev pub kindsOf : Sort → List Kind
-kindsOf Sort.Params = Kind.Hex ∷ Kind.Hex ∷ Kind.Hex ∷ Kind.Hex ∷ Kind.Hex ∷ Kind.Decimal ∷ Kind.Decimal ∷ []
+kindsOf Sort.Params = paramKinds (Kind.Decimal ∷ [])
+kindsOf Sort.Ruled = paramKinds (Kind.Decimal ∷ Kind.Decimal ∷ [])
 kindsOf Sort.Corner = Kind.Hex ∷ Kind.Hex ∷ Kind.Hex ∷ Kind.Spread ∷ Kind.Hex ∷ Kind.Spread ∷ []
 kindsOf Sort.Triangle = Kind.Decimal ∷ Kind.Decimal ∷ Kind.Decimal ∷ Kind.Twin ∷ Kind.Twin ∷ Kind.Twin ∷ []
 
@@ -35,6 +41,7 @@ triangleSize = 6
 
 abbrev pub sizeOf : Sort → ℕ
 sizeOf Sort.Params = 7
+sizeOf Sort.Ruled = 8
 sizeOf Sort.Corner = cornerSize
 sizeOf Sort.Triangle = triangleSize
 

@@ -9,9 +9,10 @@ use digits::End;
 use digits::Taken;
 use mesh::inner::twins::NO_TWIN;
 
-// The sorts of line: the P line, a C line, a T line.
+// The sorts of line: the P line without the rule's number and with it, a C line, a T line.
 pub(crate) enum Sort {
     Params,
+    Ruled,
     Corner,
     Triangle,
 }
@@ -42,6 +43,7 @@ pub(crate) fn letter(sort: Sort) -> u8
 {
     match sort {
         Sort::Params => b'P',
+        Sort::Ruled => b'P',
         Sort::Corner => b'C',
         Sort::Triangle => b'T',
     }
@@ -53,6 +55,7 @@ pub(crate) fn fields(sort: Sort) -> usize
 {
     match sort {
         Sort::Params => 7,
+        Sort::Ruled => 8,
         Sort::Corner => 6,
         Sort::Triangle => 6,
     }
@@ -64,6 +67,7 @@ pub(crate) fn size(sort: Sort) -> usize
 {
     match sort {
         Sort::Params => 7,
+        Sort::Ruled => 8,
         Sort::Corner => room::CORNER_SIZE,
         Sort::Triangle => room::TRIANGLE_SIZE,
     }
@@ -76,6 +80,7 @@ pub(crate) fn kind_at(sort: Sort, i: usize) -> Kind
 {
     match sort {
         Sort::Params => if i < 5 { Kind::Hex } else { Kind::Decimal },
+        Sort::Ruled => if i < 5 { Kind::Hex } else { Kind::Decimal },
         Sort::Corner => {
             if i == 3 {
                 Kind::Spread

@@ -3,7 +3,7 @@
 
 use super::{records, room, short};
 use crate::judge::{
-    first_of, missing_corner, positions, quad_counts, repeated_corner, whole_quads, Refusal,
+    first_of, missing_corner, positions, quad_counts, repeated_corner, whole_quads, Refusal, Row,
 };
 use frame::Frame;
 
@@ -26,15 +26,14 @@ pub fn filters(
     work: &mut [u32],
     kept: &mut [u32],
 ) -> Result<usize, Refusal> {
-    let rows: [&dyn Fn() -> Option<usize>; 8] = [
-        &|| unpaired(frame, quads),
-        &|| quad_counts(quads, frame.corners()),
-        &|| parameters(frame),
-        &|| positions(frame),
-        &|| missing_corner(quads, frame.corners()),
-        &|| repeated_corner(quads, 4),
-        &|| None,
-        &|| short(quads, frame.corners(), work),
+    let rows: [Row; 7] = [
+        (1, &|| unpaired(frame, quads)),
+        (2, &|| quad_counts(quads, frame.corners())),
+        (3, &|| parameters(frame)),
+        (4, &|| positions(frame)),
+        (5, &|| missing_corner(quads, frame.corners())),
+        (6, &|| repeated_corner(quads, 4)),
+        (8, &|| short(quads, frame.corners(), work)),
     ];
     if let Some(refusal) = first_of(&rows) {
         return Err(refusal);

@@ -70,6 +70,8 @@ fn print_notes(table: &Table) {
         "their groups: {few_quads} with too few quads, {unlabelled} without a labelling, \
          {few_lone} with too few lone corners, {kept} kept"
     );
+    let [second, other] = table.by_rule_2;
+    println!("frames by rule 2 of spreads: {second}, with other components by rule 1: {other}");
     print_first("smallest out of scope with another answer", &table.smallest_outside);
     match &table.in_scope {
         None => println!("no difference in scope"),

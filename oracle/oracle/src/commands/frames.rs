@@ -4,6 +4,7 @@
 use oracle::command::{number, Outcome};
 use oracle::generate::bad_text::{spoil, WAYS};
 use oracle::generate::{maker, texts, KINDS};
+use oracle::judge::TWIN_ROWS;
 use oracle::random::Random;
 use oracle::stages::Build;
 use oracle::text::{answer, MOST_TEXT_CORNERS};
@@ -17,15 +18,17 @@ const CORNERS: usize = MOST_TEXT_CORNERS;
 fn sound(kind: &str, random: &mut Random) -> Result<String, String> {
     let names: Vec<&str> = KINDS.iter().map(|k| k.0).collect();
     let make = maker(kind).ok_or_else(|| {
-        format!("no kind {kind:?}; kinds: {} row3 .. row7 row11 row12 bad", names.join(" "))
+        let rows = "row3 .. row7 row11 row12 row18";
+        format!("no kind {kind:?}; kinds: {} {rows} bad", names.join(" "))
     })?;
     Ok(texts::sound(make, CORNERS, random))
 }
 
 /// The text of a frame that this row refuses, drawn again where another of the rows of twins does.
 fn refused(row: u32, random: &mut Random) -> String {
+    let damaged = if TWIN_ROWS.contains(&row) { 7 } else { row };
     loop {
-        let (text, refusal) = texts::damaged(row.min(7), CORNERS, random);
+        let (text, refusal) = texts::damaged(damaged, CORNERS, random);
         if refusal.row == row {
             return text;
         }
@@ -40,7 +43,7 @@ fn text(kind: &str, seed: u64, i: usize) -> Result<Vec<u8>, String> {
         return Ok(spoil(WAYS[i % WAYS.len()], &good, &mut random).0);
     }
     match kind.strip_prefix("row").and_then(|row| row.parse().ok()) {
-        Some(row @ (3..=7 | 11 | 12)) => Ok(refused(row, &mut random).into_bytes()),
+        Some(row @ (3..=7 | 11 | 12 | 18)) => Ok(refused(row, &mut random).into_bytes()),
         _ => Ok(sound(kind, &mut random)?.into_bytes()),
     }
 }

@@ -70,6 +70,8 @@ fn spoil_shape(way: &str, line: &mut Vec<u8>, random: &mut Random) {
             line[blank + 1] = random.pick(&[0u8, 0xFF, 0xC3, b'.', b':', b'/', b'G', b'@'])
         }
         "field missing" => line.truncate(line.iter().rposition(|&b| b == b' ').expect("a blank")),
+        // the P line may have one field more
+        "field too many" if line[0] == b'P' => line.extend(b" 1 0"),
         "field too many" => line.extend(b" 0"),
         "unknown letter" => line[0] = random.pick(b"QAZ#0"),
         _ => line[0] = line[0].to_ascii_lowercase(),

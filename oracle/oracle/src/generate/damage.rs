@@ -1,5 +1,6 @@
 // Damages sound frames, one row of the refusal table at a time, and says what must be answered.
 
+use super::silence::no_rule;
 use crate::judge::Refusal;
 use crate::random::Random;
 use frame::{Frame, NONE};
@@ -129,11 +130,17 @@ fn twins(frame: &mut Frame, random: &mut Random) -> Refusal {
     found.unwrap_or_else(|| past_the_end(frame, random))
 }
 
+fn spread_rule(frame: &mut Frame, random: &mut Random) -> u32 {
+    frame.params.spread_rule = no_rule(random);
+    0
+}
+
 fn damage_row(row: u32, frame: &mut Frame, random: &mut Random) -> Refusal {
     let place = match row {
         1 => lengths(frame, random),
         2 => counts(frame, random),
         3 => parameters(frame, random),
+        18 => spread_rule(frame, random),
         4 => positions(frame, random),
         5 => missing_corner(frame, random),
         6 => repeated_corner(frame, random),
@@ -144,9 +151,10 @@ fn damage_row(row: u32, frame: &mut Frame, random: &mut Random) -> Refusal {
 
 /// Damages a frame that has triangles so that the row given is the first to refuse it; 7 stands
 /// for the rows of twins, of which one is drawn. Later rows may be damaged too: they must not be
-/// seen.
+/// seen. Row 18 stands before row 4.
 pub fn damage(row: u32, frame: &mut Frame, random: &mut Random) -> Refusal {
-    for later in (row + 1..=7).rev() {
+    let next = if row == 18 { 4 } else { row + 1 };
+    for later in (next..=7).rev() {
         if random.one_in(4) && later != 2 {
             damage_row(later, frame, random);
         }

@@ -48,6 +48,7 @@ pub fn parameters(random: &mut Random) -> Params {
         spread_limit: random.pick(&[0.6, 1.0]),
         least_quads: random.pick(&[0, 1, 1, 1, 2, 5]),
         least_corners: random.pick(&[0, 1, 4, 4, 6, 9]),
+        spread_rule: 1,
     };
     if random.one_in(16) {
         let odd = [f32::INFINITY, f32::NEG_INFINITY, 0.0, -0.0, -1.0, 1.0, 1e30];

@@ -14,6 +14,7 @@ pub mod quad_lists;
 mod rosettes;
 mod scatter;
 mod sheet;
+pub mod silence;
 mod tables;
 pub mod texts;
 mod ties;

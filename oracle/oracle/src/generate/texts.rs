@@ -23,8 +23,8 @@ pub fn sound(make: Maker, corners: usize, random: &mut Random) -> String {
     write(&drawn(make, corners, random))
 }
 
-/// The text of a frame that a row refuses, one of 3 to 7 as `damage` has them: rows 1 and 2 cannot be
-/// said in a text. With it what must be answered.
+/// The text of a frame that a row refuses, one of 3 to 7 or 18 as `damage` has them: rows 1 and 2
+/// cannot be said in a text. With it what must be answered.
 pub fn damaged(row: u32, corners: usize, random: &mut Random) -> (String, Refusal) {
     loop {
         let make = KINDS[random.below(4)].1;

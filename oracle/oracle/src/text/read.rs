@@ -7,18 +7,26 @@ use frame::{Frame, Params, NONE};
 pub const MOST_TEXT_CORNERS: usize = 128;
 pub const MOST_TEXT_TRIANGLES: usize = 256;
 
-/// The fields after the letter, exactly N of them, one blank between.
-fn fields<const N: usize>(line: &[u8], letter: u8) -> Option<[&[u8]; N]> {
+/// The fields after the letter, one blank between.
+fn all_fields(line: &[u8], letter: u8) -> Option<Vec<&[u8]>> {
     let mut parts = line.split(|&b| b == b' ');
-    if parts.next()? != [letter] {
-        return None;
-    }
-    let parts: Vec<&[u8]> = parts.collect();
-    parts.try_into().ok()
+    (parts.next()? == [letter]).then(|| parts.collect())
 }
 
+/// The fields after the letter, exactly N of them.
+fn fields<const N: usize>(line: &[u8], letter: u8) -> Option<[&[u8]; N]> {
+    all_fields(line, letter)?.try_into().ok()
+}
+
+/// The spread rule, where the P line has it, is an eighth field of any decimal.
 fn parameters(line: &[u8]) -> Option<Params> {
-    let f: [&[u8]; 7] = fields(line, b'P')?;
+    let all = all_fields(line, b'P')?;
+    let (f, rule) = all.split_first_chunk::<7>()?;
+    let spread_rule = match rule {
+        [] => 1,
+        [rule] => whole(rule)?,
+        _ => return None,
+    };
     Some(Params {
         tolerance: float(f[0])?,
         ratio: float(f[1])?,
@@ -27,6 +35,7 @@ fn parameters(line: &[u8]) -> Option<Params> {
         spread_limit: float(f[4])?,
         least_quads: whole(f[5])?,
         least_corners: whole(f[6])?,
+        spread_rule,
     })
 }
 

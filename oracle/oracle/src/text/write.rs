@@ -2,7 +2,7 @@
 
 use super::read::{MOST_TEXT_CORNERS, MOST_TEXT_TRIANGLES};
 use crate::judge::paired;
-use frame::{Frame, NONE};
+use frame::{Frame, Params, NONE};
 
 /// Whether a text can say this frame: its size, and lists that pair up.
 pub fn fits(frame: &Frame) -> bool {
@@ -36,11 +36,17 @@ fn triangle(frame: &Frame, t: usize) -> String {
     format!("T {a} {b} {c} {} {} {}\n", twin(0), twin(1), twin(2))
 }
 
+/// Rule 1 is left out: a text without a rule has it.
+fn parameters(params: &Params) -> String {
+    let floats = params.floats().map(word).join(" ");
+    let Params { least_quads, least_corners, spread_rule, .. } = params;
+    let rule = if *spread_rule == 1 { String::new() } else { format!(" {spread_rule}") };
+    format!("P {floats} {least_quads} {least_corners}{rule}\n")
+}
+
 /// The text of a frame that fits.
 pub fn write(frame: &Frame) -> String {
-    let params = &frame.params;
-    let floats = params.floats().map(word).join(" ");
-    let mut out = format!("P {floats} {} {}\n", params.least_quads, params.least_corners);
+    let mut out = parameters(&frame.params);
     out.extend((0..frame.corners()).map(|c| corner(frame, c)));
     out.extend((0..frame.half_edges() / 3).map(|t| triangle(frame, t)));
     out

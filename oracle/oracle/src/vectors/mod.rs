@@ -2,6 +2,7 @@
 // the program: inputs and the answers that document 01 gives.
 
 mod angles;
+mod by_rule;
 mod counts;
 mod distances;
 mod faults;
@@ -14,6 +15,7 @@ mod meshes;
 mod over_quads;
 mod pack;
 mod roots;
+mod silence;
 mod sized;
 pub mod stages;
 pub mod texts;
@@ -23,6 +25,7 @@ mod work;
 mod write;
 
 pub use angles::angles;
+pub use by_rule::{ByRule, Spreads};
 pub use counts::Summed;
 pub use distances::distances;
 pub use form::moved;

@@ -4,7 +4,7 @@ use std::path::Path;
 use std::{fmt, fs, io};
 
 use super::form::text;
-use super::{Answer, Summed, Vector};
+use super::{Answer, ByRule, Spreads, Summed, Vector};
 
 /// No data file may be longer: a program reads 64 KiB at most.
 const LONGEST: usize = 65_000;
@@ -77,6 +77,31 @@ impl<S: fmt::Display> fmt::Display for Written<S> {
         self.files.iter().try_for_each(|(name, bytes)| writeln!(f, "{name} {bytes} bytes"))?;
         self.summary.fmt(f)
     }
+}
+
+/// What cases hold, and what those by a spread rule do.
+pub struct WithRules<S> {
+    pub without: S,
+    pub by_rule: S,
+}
+
+impl<S: fmt::Display> fmt::Display for WithRules<S> {
+    fn fmt(&self, f: &mut fmt::Formatter<'_>) -> fmt::Result {
+        self.without.fmt(f)?;
+        write!(f, "by a spread rule:\n{}", self.by_rule)
+    }
+}
+
+/// Writes all cases into a folder, those by a spread rule behind the others.
+pub fn write_with_rules<C: Spreads, S: Summed<C>>(
+    folder: &Path,
+    cases: &[C],
+    by_rule: &[ByRule<C>],
+) -> io::Result<Written<WithRules<S>>> {
+    let files: Vec<File> = pack(cases).into_iter().chain(pack(by_rule)).collect();
+    let inner: Vec<C> = by_rule.iter().map(|case| case.0.clone()).collect();
+    let summary = WithRules { without: S::of(cases), by_rule: S::of(&inner) };
+    Ok(Written { files: write(folder, &files)?, summary })
 }
 
 /// Writes all cases into a folder and says what was written.

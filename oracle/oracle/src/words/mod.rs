@@ -1,5 +1,6 @@
-// Document 01's words on the stages, taken one by one and without regard to speed, so that they
-// can be held against the original. Nothing here looks at the original's code.
+// Document 01's words on the stages, with document 02's on missing spreads, taken one by one and
+// without regard to speed, so that they can be held against the original. Nothing here looks at the
+// original's code.
 
 mod classes;
 pub mod filters;
@@ -11,10 +12,11 @@ pub use quads::quads;
 use crate::demand;
 use frame::{AxisPair, Frame, Stages};
 
-/// The axis cache: missing is informative, a number is so if finite and strictly below the limit.
+/// The axis cache: missing is informative by rule 1 and not by rule 2, a number is so by either if
+/// finite and strictly below the limit.
 pub fn axes(frame: &Frame) -> Vec<AxisPair> {
     let informative = |slot: usize| match frame.spread(slot) {
-        None => true,
+        None => frame.params.spread_rule == 1,
         Some(spread) => spread.is_finite() && spread < frame.params.spread_limit,
     };
     let pair = |c: usize| AxisPair {

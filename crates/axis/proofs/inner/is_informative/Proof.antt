@@ -15,7 +15,7 @@ is-finite-requires c κs = search needs
 
 returns : tie.Need-returns
 unfolding informativeOf
-returns c = rw (c .enum-told .given .1)
+returns c = rw (c .before .enum-told .given .1)
 
 returns-2 : tie.Need-returns-2
 unfolding informativeOf

@@ -19,21 +19,27 @@ positions-row-requires c κs = search needs
 in-order-requires-2 : tie.Need-in-order-requires-2
 in-order-requires-2 c κs = search needs
 
+rule-row-requires : tie.Need-rule-row-requires
+rule-row-requires c κs = search needs
+
+in-order-requires-3 : tie.Need-in-order-requires-3
+in-order-requires-3 c κs = search needs
+
 parameter-row-requires : tie.Need-parameter-row-requires
 parameter-row-requires c κs = search needs
 
 parameter-row-requires-2 : tie.Need-parameter-row-requires-2
 parameter-row-requires-2 c κs = search needs
 
-in-order-requires-3 : tie.Need-in-order-requires-3
-in-order-requires-3 c κs = search needs
-
 in-order-requires-4 : tie.Need-in-order-requires-4
 in-order-requires-4 c κs = search needs
 
+in-order-requires-5 : tie.Need-in-order-requires-5
+in-order-requires-5 c κs = search needs
+
 returns : tie.Need-returns
 unfolding valuesGate
-returns c = rw (c .in-order4 .ensures, c .before .in-order3 .ensures, c .before .before .parameter-row2 .ensures, c .before .before .before .parameter-row .ensures, c .before .before .before .before .in-order2 .ensures, c .before .before .before .before .before .positions-row .ensures, c .before .before .before .before .before .before .in-order .ensures, c .before .before .before .before .before .before .before .twice-row .ensures, c .before .before .before .before .before .before .before .before .corners-row .ensures)
+returns c = rw (c .in-order5 .ensures, c .before .in-order4 .ensures, c .before .before .parameter-row2 .ensures, c .before .before .before .parameter-row .ensures, c .before .before .before .before .in-order3 .ensures, c .before .before .before .before .before .rule-row .ensures, c .before .before .before .before .before .before .in-order2 .ensures, c .before .before .before .before .before .before .before .positions-row .ensures, c .before .before .before .before .before .before .before .before .in-order .ensures, c .before .before .before .before .before .before .before .before .before .twice-row .ensures, c .before .before .before .before .before .before .before .before .before .before .corners-row .ensures)
 
 pub values-gate-spec : {M : Type 1} → statement M
 values-gate-spec =
@@ -44,8 +50,10 @@ values-gate-spec =
     in-order-requires
     positions-row-requires
     in-order-requires-2
+    rule-row-requires
+    in-order-requires-3
     parameter-row-requires
     parameter-row-requires-2
-    in-order-requires-3
     in-order-requires-4
+    in-order-requires-5
     returns)

@@ -5,7 +5,7 @@ use crate::stages::Build;
 use crate::told::Told;
 use crate::vectors::form::{add_list, bits, untouched};
 use crate::vectors::work::Working;
-use crate::vectors::Vector;
+use crate::vectors::{Spreads, Vector};
 use frame::{Frame, Params};
 
 /// The number that begins the case in a file; those below it are the stages', the filters' and the
@@ -93,6 +93,16 @@ impl Vector for Case {
     /// By the ruled build.
     fn answer(&self) -> Told<2, 3> {
         self.told(Build::Ruled)
+    }
+}
+
+impl Spreads for Case {
+    fn frame(&self) -> &Frame {
+        &self.frame
+    }
+
+    fn frame_mut(&mut self) -> &mut Frame {
+        &mut self.frame
     }
 }
 

@@ -9,6 +9,7 @@ mod order;
 mod params;
 mod room;
 mod rows;
+mod rules;
 mod shapes;
 mod summary;
 mod work;
@@ -16,11 +17,13 @@ mod work;
 pub use case::Case;
 pub use lend::lend;
 pub(super) use order::twins as twin_orders;
+pub(super) use rules::frames as rule_frames;
 pub use shapes::{holed, noisy, square_grid};
 pub use summary::Summary;
 
-use super::pack::{write_cases, Written};
+use super::pack::{write_with_rules, WithRules, Written};
 use super::vector::gathered;
+use super::ByRule;
 use std::io;
 use std::path::Path;
 
@@ -41,7 +44,12 @@ pub fn frame_cases() -> Vec<Case> {
     ])
 }
 
+/// All cases by a spread rule.
+pub fn rule_cases() -> Vec<ByRule<Case>> {
+    gathered(&[rules::add])
+}
+
 /// Writes everything into a folder and says what was written.
-pub fn write_frames(folder: &Path) -> io::Result<Written<Summary>> {
-    write_cases(folder, &frame_cases())
+pub fn write_frames(folder: &Path) -> io::Result<Written<WithRules<Summary>>> {
+    write_with_rules(folder, &frame_cases(), &rule_cases())
 }

@@ -8,7 +8,7 @@ use frame::NONE;
 
 /// Faults in order of their rows; rows 1, 2 and 3 have two. The strip has one component of eight
 /// entries.
-const FAULTS: [Fault<Case>; 13] = [
+pub const FAULTS: [Fault<Case>; 13] = [
     |case| case.frame.y.truncate(case.frame.y.len() - 1),
     |case| case.frame.triangles.truncate(case.frame.triangles.len() - 1),
     |case| crowd(&mut case.frame, 4_097),
@@ -28,7 +28,7 @@ const FAULTS: [Fault<Case>; 13] = [
 ];
 
 /// Which of them is of twins.
-const TWINS: usize = 9;
+pub const TWINS: usize = 9;
 
 pub fn add(cases: &mut Vec<Case>) {
     let sound = Case::of(strip(3));

@@ -9,7 +9,7 @@ use crate::vectors::{Vector, INFINITIES, NANS};
 use frame::Params;
 
 /// The floats in the order of row 3's places.
-const FLOATS: [fn(&mut Params) -> &mut f32; 5] = [
+pub const FLOATS: [fn(&mut Params) -> &mut f32; 5] = [
     |params| &mut params.tolerance,
     |params| &mut params.ratio,
     |params| &mut params.least,
@@ -17,7 +17,7 @@ const FLOATS: [fn(&mut Params) -> &mut f32; 5] = [
     |params| &mut params.spread_limit,
 ];
 
-fn set(case: &Case, float: usize, value: f32) -> Case {
+pub fn set(case: &Case, float: usize, value: f32) -> Case {
     case.with(|case| *FLOATS[float](&mut case.frame.params) = value)
 }
 

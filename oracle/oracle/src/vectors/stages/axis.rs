@@ -6,8 +6,8 @@ use crate::vectors::{INFINITIES, NANS};
 use frame::Frame;
 
 /// A limit, and the spreads of every kind beside it.
-const LIMIT: u32 = 0x3F19_999A;
-const SPREADS: [u32; 14] = [
+pub const LIMIT: u32 = 0x3F19_999A;
+pub const SPREADS: [u32; 14] = [
     0x0000_0000,
     0x8000_0000,
     0x0000_0001,
@@ -37,7 +37,7 @@ const LIMITS: [u32; 12] = [
     INFINITIES[1],
     NANS[0],
 ];
-const ANGLES: [u32; 9] = [
+pub const ANGLES: [u32; 9] = [
     0x0000_0000,
     0x8000_0000,
     0x3FC9_0FDB,
@@ -50,7 +50,7 @@ const ANGLES: [u32; 9] = [
 ];
 const MARKS: [u32; 4] = [0, 1, 2, u32::MAX];
 
-fn axis(angles: [u32; 2], marks: [u32; 2], spreads: [u32; 2], limit: u32) -> Case {
+pub fn axis(angles: [u32; 2], marks: [u32; 2], spreads: [u32; 2], limit: u32) -> Case {
     let mut frame = Frame::default();
     frame.add_corner(0.0, 0.0, angles.map(f32::from_bits), [None, None]);
     frame.marks = marks.to_vec();

@@ -3,7 +3,7 @@
 use super::answer::{answer, Answer};
 use super::words::words;
 use crate::vectors::form::untouched;
-use crate::vectors::Vector;
+use crate::vectors::{Spreads, Vector};
 use frame::Frame;
 
 #[derive(Clone, Copy, Debug, PartialEq, Eq)]
@@ -69,5 +69,15 @@ impl Vector for Case {
 
     fn answer(&self) -> Answer {
         answer(self)
+    }
+}
+
+impl Spreads for Case {
+    fn frame(&self) -> &Frame {
+        &self.frame
+    }
+
+    fn frame_mut(&mut self) -> &mut Frame {
+        &mut self.frame
     }
 }

@@ -2,10 +2,12 @@
 
 mod answer;
 mod axis;
+mod axis_rules;
 mod case;
 mod class_axes;
 mod class_lists;
 mod class_numbers;
+mod class_rules;
 mod drawn;
 mod lengths;
 mod order;
@@ -21,8 +23,9 @@ pub use answer::Answer;
 pub use case::{Case, Kind};
 pub use summary::Summary;
 
-use super::pack::{write_cases, Written};
+use super::pack::{write_with_rules, WithRules, Written};
 use super::vector::gathered;
+use super::ByRule;
 use std::io;
 use std::path::Path;
 
@@ -44,7 +47,12 @@ pub fn stage_cases() -> Vec<Case> {
     ])
 }
 
+/// All cases of the axis cache and of the classes by a spread rule.
+pub fn rule_cases() -> Vec<ByRule<Case>> {
+    gathered(&[axis_rules::add, class_rules::add])
+}
+
 /// Writes everything into a folder and says what was written.
-pub fn write_stages(folder: &Path) -> io::Result<Written<Summary>> {
-    write_cases(folder, &stage_cases())
+pub fn write_stages(folder: &Path) -> io::Result<Written<WithRules<Summary>>> {
+    write_with_rules(folder, &stage_cases(), &rule_cases())
 }

@@ -6,7 +6,7 @@ use crate::vectors::meshes::{crowd, strip};
 use crate::vectors::{twin_rows, Vector};
 
 /// Faults with their rows. Row 5 has two: a corner, and a class, which the classes call lacks.
-const FAULTS: [(u32, Fault<Case>); 10] = [
+pub const FAULTS: [(u32, Fault<Case>); 10] = [
     (1, |case| case.frame.y.truncate(case.frame.y.len() - 1)),
     (2, |case| crowd(&mut case.frame, 4_097)),
     (3, |case| case.frame.params.tolerance = f32::NAN),
@@ -19,7 +19,7 @@ const FAULTS: [(u32, Fault<Case>); 10] = [
     (9, |case| case.quads.truncate(7)),
 ];
 
-fn has(kind: Kind, row: u32) -> bool {
+pub fn has(kind: Kind, row: u32) -> bool {
     match kind {
         Kind::Classes => row <= 6,
         _ => row != 3,

@@ -47,7 +47,7 @@ const FLOATS: [&str; 18] = [
 ];
 
 /// Words for a place where a decimal may stand.
-const WHOLES: [&str; 27] = [
+pub const WHOLES: [&str; 27] = [
     "0",
     "1",
     "9",

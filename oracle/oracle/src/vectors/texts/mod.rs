@@ -4,6 +4,7 @@ mod changes;
 mod drawn;
 mod limits;
 mod lines;
+mod rules;
 mod summary;
 mod twins;
 
@@ -27,7 +28,8 @@ impl Group {
     }
 }
 
-/// All texts: those chosen by hand, the drawn ones, and the rows of twins told apart.
+/// All texts: those chosen by hand, the drawn ones, the rows of twins told apart, and the rules of
+/// spreads.
 pub fn text_groups() -> Vec<Group> {
     vec![
         Group::of("lines", lines::texts()),
@@ -37,6 +39,7 @@ pub fn text_groups() -> Vec<Group> {
         Group::of("refused", drawn::refused()),
         Group::of("sound", drawn::sound()),
         Group::of("twins", twins::texts()),
+        Group::of("rules", rules::texts()),
     ]
 }
 
