@@ -1,5 +1,5 @@
 /* Labels a frame: sixteen corners of a plate of 3 by 3 squares, tilted, with their axes and a triangulation. Prints where each corner
- * stands on the plate's lattice, then two calls that are refused, in words.
+ * stands on the plate's lattice, then what is left by the other spread rule, then two calls that are refused, in words.
  * cc -Iinclude examples/frame.c libabi.a -lm; tools/try-c compiles it, runs it and holds what it prints against frame.c.expected. */
 #include "ngeunsadok.h"
 
@@ -29,7 +29,7 @@ static void find_corners(void) {
             angles[2 * k + 1] = 1.72f;
             spreads[2 * k] = 0.05f;
             marks[2 * k] = 1;
-            marks[2 * k + 1] = 0; /* this axis came without a spread */
+            marks[2 * k + 1] = 0; /* this axis, along a column, came without a spread */
         }
 }
 
@@ -106,6 +106,7 @@ static void print_answer(ngeunsadok_counts counts) {
         print_refusal(counts);
         return;
     }
+    if (!counts.components) puts("no component");
     for (k = 0; k < counts.components; k++) {
         printf("component %lu: corners %lu, holes %lu\n", (unsigned long)k, (unsigned long)components[k].entries,
                (unsigned long)components[k].holes);
@@ -117,6 +118,7 @@ static void print_answer(ngeunsadok_counts counts) {
 int main(void) {
     const ngeunsadok_frame frame = {CORNERS, x, y, angles, marks, spreads, HALF_EDGES, triangles, twins};
     const ngeunsadok_params params = NGEUNSADOK_DEFAULT_PARAMS;
+    ngeunsadok_params strict = params;
     const size_t words = sizeof work / sizeof *work, records = sizeof components / sizeof *components, room = sizeof entries / sizeof *entries;
 
     if (!ngeunsadok_float_settings_hold()) {
@@ -128,6 +130,9 @@ int main(void) {
     if (!make_twins(triangles, HALF_EDGES, twins)) return 1;
     print_answer(ngeunsadok_label(&frame, &params, work, words, components, records, entries, room));
 
+    /* where a missing spread says that the finder gave up: no axis along a column counts, and so no side there */
+    strict.rule = NGEUNSADOK_MISSING_UNINFORMATIVE;
+    print_answer(ngeunsadok_label(&frame, &strict, work, words, components, records, entries, room));
     /* an entry list with too little room */
     print_answer(ngeunsadok_label(&frame, &params, work, words, components, records, entries, 15));
     /* a twin that does not point back */

@@ -31,7 +31,8 @@
  *
  *   x, y        one float a corner; corners are numbered from 0
  *   angles      two floats a corner, slot 0 then slot 1: corner k has elements 2k and 2k + 1; any float, NaN too
- *   marks       two words a corner in the same slots: 0 says that the spread in that slot is missing, any other that it is there
+ *   marks       two words a corner in the same slots: 0 says that the spread in that slot is missing, any other that it is there; the
+ *               spread rule says whether an axis without one counts
  *   spreads     two floats a corner in the same slots; not looked at where the mark is 0
  *   triangles   three corners a triangle; element e is the corner that half-edge e runs from, to the corner of the next one: e + 1, or
  *               e - 2 where e leaves 2 on division by 3; half-edge e belongs to triangle e / 3
@@ -55,6 +56,7 @@
  *      not whole; place 0
  *   2  a count is over its limit: 4,096 corners, 24,576 half-edges, 4,096 quads; place 0
  *   3  a parameter is NaN; place: tolerance 0, ratio 1, least 2, greatest 3, spread limit 4
+ *  18  the spread rule is neither 1 nor 2; place 0
  *   4  a position is not finite or above 1,048,576 in magnitude; place: the corner. For the angle, a difference that is not finite or above
  *      2,097,152 in magnitude; for the root, a value NaN, infinite or below zero; place 0
  *   5  a triangle or quad names a corner that does not exist, or else a class read is above 2; place: the position in its list
@@ -103,7 +105,15 @@ enum {
     NGEUNSADOK_RECORDS = 9,
     NGEUNSADOK_ENTRIES = 10,
     NGEUNSADOK_TWIN_NOT_BACK = 11,
-    NGEUNSADOK_TWIN_ELSEWHERE = 12
+    NGEUNSADOK_TWIN_ELSEWHERE = 12,
+    NGEUNSADOK_RULE = 18
+};
+
+/* The spread rules: whether an axis without a spread is informative. One with a spread is so by either where that is finite and below the
+ * limit. */
+enum {
+    NGEUNSADOK_MISSING_INFORMATIVE = 1,
+    NGEUNSADOK_MISSING_UNINFORMATIVE = 2
 };
 
 /* The words of workspace that a whole frame asks for, with the number of its half-edges, that is, the elements of triangles. */
@@ -173,7 +183,8 @@ typedef struct {
 } ngeunsadok_entry;
 
 /* The parameters of a whole frame; beside each the name and the default that the original Rust library (NOTICE names it) has for it. None
- * is NaN. */
+ * is NaN. The original has no rule but 1. The rule stands last so that an initialiser by position without it moves no other value: it
+ * leaves the rule 0, and that is refused by 18. */
 typedef struct {
     float tolerance;       /* axis_align_tol_rad, 15 degrees: nearer than this, in radians, to an axis at both ends is a Grid side */
     float ratio;           /* opposing_edge_ratio_max, 1.5: the greatest ratio of two opposing sides of a quad */
@@ -182,10 +193,11 @@ typedef struct {
     float limit;           /* max_axis_sigma_rad, 0.6: an axis with a spread, in radians, of this or more does not count */
     uint32_t leastquads;   /* min_quads_per_component, 1: the quads that a group has for it to become a component */
     uint32_t leastcorners; /* min_corners_for_component, 4: the corners alone on their places that it has as well */
+    uint32_t rule;         /* the spread rule: 1 where an axis without a spread counts, 2 where it does not */
 } ngeunsadok_params;
 
 /* The original's defaults: ngeunsadok_params params = NGEUNSADOK_DEFAULT_PARAMS; */
-#define NGEUNSADOK_DEFAULT_PARAMS {0.261799395f, 1.5f, 0.4f, 2.5f, 0.6f, 1, 4}
+#define NGEUNSADOK_DEFAULT_PARAMS {0.261799395f, 1.5f, 0.4f, 2.5f, 0.6f, 1, 4, NGEUNSADOK_MISSING_INFORMATIVE}
 
 /* What a whole frame reads, laid out as above. */
 typedef struct {
@@ -209,35 +221,36 @@ ngeunsadok_number ngeunsadok_angle(float dx, float dy);
 /* The distance of an angle from an axis, which has no direction: from 0 to pi/2, or none where it is not finite. No rows. */
 ngeunsadok_apart ngeunsadok_distance(float angle, float axis);
 
-/* The axis cache of one corner: its two angles, and for each whether it is informative, that is, whether its spread is missing (marked is
- * 0) or finite and below the limit. Row 3. */
+/* The axis cache of one corner: its two angles, and for each whether it is informative, that is, whether its spread is finite and below the
+ * limit, or missing (marked is 0) where the rule is 1. Rows 3 and 18. */
 ngeunsadok_cache ngeunsadok_axis_cache(float angle0, uint32_t marked0, float spread0, float angle1, uint32_t marked1, float spread1,
-                                       float limit);
+                                       float limit, uint32_t rule);
 
 /* A whole frame: classes, quads, the three filters and labelling. This is the call to use; those below it are its stages, one by one.
  *
  * Read: x and y, the axes of each corner (angles, marks, spreads), triangles, and twins, one for each element of triangles.
- * tolerance is how near an axis a Grid side is, and limit the spread below which an axis counts; ratio, least and greatest are those of
- * the filters, leastquads and leastcorners those of the labelling, all as below.
+ * tolerance is how near an axis a Grid side is, limit the spread below which an axis counts, and rule whether one without a spread does (1)
+ * or not (2); ratio, least and greatest are those of the filters, leastquads and leastcorners those of the labelling, all as below.
  * Written: components, three words each, by their lowest quads; and entries, three words each, in order of u, then v, within a component.
  * With h elements of triangles there are at most h / 6 components and 4 * (h / 6) entries, both divisions rounded down: lists of
  * 3 * (h / 6) and 12 * (h / 6) words always have room.
  * Lent: work, of NGEUNSADOK_FRAME_WORK(h, corners) words or more. ngeunsadok_label below makes the same call with structs.
  *
- * Rows 1 to 12. Rows 9 and 10 leave components and entries as they were and all of work zero; the others leave work, components and
+ * Rows 1 to 12 and 18. Rows 9 and 10 leave components and entries as they were and all of work zero; the others leave work, components and
  * entries as they were. Success leaves all of work zero, and components and entries as they were past the answer. */
 ngeunsadok_counts ngeunsadok_label_frame(const float *x, size_t x_count, const float *y, size_t y_count, const float *angles,
                                          size_t angle_count, const uint32_t *marks, size_t mark_count, const float *spreads,
                                          size_t spread_count, const uint32_t *triangles, size_t triangle_words, const uint32_t *twins,
                                          size_t twin_count, float tolerance, float ratio, float least, float greatest, float limit,
-                                         uint32_t leastquads, uint32_t leastcorners, uint32_t *work, size_t work_words,
+                                         uint32_t leastquads, uint32_t leastcorners, uint32_t rule, uint32_t *work, size_t work_words,
                                          uint32_t *components, size_t component_words, uint32_t *entries, size_t entry_words);
 
-/* The class of every half-edge into classes, which has as many elements as triangles. Rows 1 to 6. */
+/* The class of every half-edge into classes, which has as many elements as triangles. tolerance, limit and rule are as for a whole frame.
+ * Rows 1 to 3, 18 and 4 to 6. */
 ngeunsadok_verdict ngeunsadok_classify_all_edges(const float *x, size_t x_count, const float *y, size_t y_count, const float *angles,
                                                  size_t angle_count, const uint32_t *marks, size_t mark_count, const float *spreads,
                                                  size_t spread_count, const uint32_t *triangles, size_t triangle_words, float tolerance,
-                                                 float limit, uint32_t *classes, size_t class_count);
+                                                 float limit, uint32_t rule, uint32_t *classes, size_t class_count);
 
 /* A quad for each pair of triangles that meet at the only diagonal of both; count is how many. There are at most half as many as
  * triangles. Rows 1, 2, 4 to 7, 11, 12 and 9. */
@@ -268,8 +281,8 @@ static inline ngeunsadok_counts ngeunsadok_label(const ngeunsadok_frame *frame, 
     return ngeunsadok_label_frame(frame->x, frame->corners, frame->y, frame->corners, frame->angles, 2 * frame->corners, frame->marks,
                                   2 * frame->corners, frame->spreads, 2 * frame->corners, frame->triangles, frame->half_edges,
                                   frame->twins, frame->half_edges, params->tolerance, params->ratio, params->least, params->greatest,
-                                  params->limit, params->leastquads, params->leastcorners, work, work_words, (uint32_t *)components,
-                                  3 * component_count, (uint32_t *)entries, 3 * entry_count);
+                                  params->limit, params->leastquads, params->leastcorners, params->rule, work, work_words,
+                                  (uint32_t *)components, 3 * component_count, (uint32_t *)entries, 3 * entry_count);
 }
 
 /* What a refusal says, what its place is, and for a twin what beside is. */
@@ -280,6 +293,7 @@ static inline const char *ngeunsadok_words(uint32_t refused) {
     case NGEUNSADOK_LIMIT: return "there are more than 4,096 corners, 24,576 half-edges or 4,096 quads";
     case NGEUNSADOK_PARAMETER:
         return "a parameter is NaN; place: 0 tolerance, 1 ratio, 2 least length, 3 greatest length, 4 spread limit";
+    case NGEUNSADOK_RULE: return "the spread rule is neither 1 nor 2";
     case NGEUNSADOK_RANGE: return "a position, or the single number given, is out of range; place: the corner, or 0";
     case NGEUNSADOK_NAMED: return "a corner that does not exist is named, or a class is above 2; place: the position in its list";
     case NGEUNSADOK_TWICE: return "a triangle or quad names a corner twice; place: the triangle or quad";

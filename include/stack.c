@@ -26,11 +26,11 @@ static uint32_t refused;
 static void root(void) { refused = ngeunsadok_root(1e-41f).refused; }
 static void angle(void) { refused = ngeunsadok_angle(-3, 5).refused; }
 static void distance(void) { refused = !ngeunsadok_distance(1e30f, 1).known; }
-static void cache(void) { refused = ngeunsadok_axis_cache(1, 1, 0.5f, 2, 0, 0, 1).refused; }
+static void cache(void) { refused = ngeunsadok_axis_cache(1, 1, 0.5f, 2, 0, 0, 1, NGEUNSADOK_MISSING_INFORMATIVE).refused; }
 
 static void classify(void) {
     refused = ngeunsadok_classify_all_edges(x, CORNERS, y, CORNERS, angles, 2 * CORNERS, marks, 2 * CORNERS, spreads, 2 * CORNERS,
-                                            triangles, HALF_EDGES, 0.25f, 1, classes, HALF_EDGES)
+                                            triangles, HALF_EDGES, 0.25f, 1, NGEUNSADOK_MISSING_INFORMATIVE, classes, HALF_EDGES)
                   .refused;
 }
 

@@ -31,11 +31,34 @@ static void numbers(void) {
     EXPECT(ngeunsadok_distance(from_bits(0x7F800000), 0.0f).known == 0);
 }
 
+/* The two spread rules, by what becomes of an axis without a spread. */
+#define KEEP NGEUNSADOK_MISSING_INFORMATIVE
+#define DROP NGEUNSADOK_MISSING_UNINFORMATIVE
+
+/* Numbers that are no spread rule. */
+static const uint32_t no_rules[3] = {0, 3, 4294967295u};
+
 static void axis(void) {
-    ngeunsadok_cache cache = ngeunsadok_axis_cache(0.5f, 0, 9.0f, 1.5f, 1, 1.0f, 1.0f);
+    ngeunsadok_cache cache = ngeunsadok_axis_cache(0.5f, 0, 9.0f, 1.5f, 1, 1.0f, 1.0f, KEEP);
+    size_t k;
+
+    EXPECT(KEEP == 1 && DROP == 2);
     EXPECT(cache.refused == 0 && cache.angle0 == 0.5f && cache.informative0 == 1);
     EXPECT(cache.angle1 == 1.5f && cache.informative1 == 0);
-    cache = ngeunsadok_axis_cache(0.5f, 0, 0.0f, 1.5f, 0, 0.0f, from_bits(0x7FC00000));
+    /* the number in the first slot is below the limit, and not looked at: its mark is 0 */
+    cache = ngeunsadok_axis_cache(0.5f, 0, 0.25f, 1.5f, 1, 0.75f, 1.0f, DROP);
+    EXPECT(cache.refused == 0 && cache.angle0 == 0.5f && cache.informative0 == 0);
+    EXPECT(cache.angle1 == 1.5f && cache.informative1 == 1);
+    cache = ngeunsadok_axis_cache(0.5f, 1, 1.0f, 1.5f, 0, 0.25f, 1.0f, DROP);
+    EXPECT(cache.refused == 0 && cache.informative0 == 0 && cache.informative1 == 0);
+    for (k = 0; k < 3; k++) {
+        cache = ngeunsadok_axis_cache(0.5f, 1, 0.25f, 1.5f, 0, 0.25f, 1.0f, no_rules[k]);
+        EXPECT(cache.refused == NGEUNSADOK_RULE && cache.place == 0);
+        EXPECT(cache.angle0 == 0.0f && cache.informative0 == 0 && cache.angle1 == 0.0f && cache.informative1 == 0);
+        cache = ngeunsadok_axis_cache(0.5f, 0, 0.0f, 1.5f, 0, 0.0f, from_bits(0x7FC00000), no_rules[k]);
+        EXPECT(cache.refused == 3 && cache.place == 4 && cache.angle0 == 0.0f && cache.informative0 == 0);
+    }
+    cache = ngeunsadok_axis_cache(0.5f, 0, 0.0f, 1.5f, 0, 0.0f, from_bits(0x7FC00000), KEEP);
     EXPECT(cache.refused == 3 && cache.place == 4 && cache.angle0 == 0.0f && cache.informative0 == 0);
 }
 
@@ -65,8 +88,8 @@ static int untouched(void) {
 /* The whole frame with these twins, a workspace of so many words and an entry list of so many. */
 static ngeunsadok_counts framed(const uint32_t *twin, size_t words, size_t entry_words) {
     reset();
-    return ngeunsadok_label_frame(x, 4, y, 4, angles, 8, marks, 8, spreads, 8, triangles, 6, twin, 6, 0.25f, 1.5f, 0.5f, 2, 1, 1, 4, work,
-                                  words, components, 4, entries, entry_words);
+    return ngeunsadok_label_frame(x, 4, y, 4, angles, 8, marks, 8, spreads, 8, triangles, 6, twin, 6, 0.25f, 1.5f, 0.5f, 2, 1, 1, 4, KEEP,
+                                  work, words, components, 4, entries, entry_words);
 }
 
 static void frame(void) {
@@ -120,15 +143,64 @@ static void stages(void) {
     uint32_t classes[6] = {77, 77, 77, 77, 77, 77}, quads[6] = {77, 77, 77, 77, 77, 77};
 
     ngeunsadok_verdict verdict;
-    verdict = ngeunsadok_classify_all_edges(x, 4, y, 3, angles, 8, marks, 8, spreads, 8, triangles, 6, 0.25f, 1, classes, 6);
+    verdict = ngeunsadok_classify_all_edges(x, 4, y, 3, angles, 8, marks, 8, spreads, 8, triangles, 6, 0.25f, 1, KEEP, classes, 6);
     EXPECT(verdict.refused == 1 && verdict.place == 0 && classes[0] == 77);
-    verdict = ngeunsadok_classify_all_edges(x, 4, y, 4, angles, 8, marks, 8, spreads, 8, triangles, 6, 0.25f, 1, classes, 6);
+    verdict = ngeunsadok_classify_all_edges(x, 4, y, 4, angles, 8, marks, 8, spreads, 8, triangles, 6, 0.25f, 1, KEEP, classes, 6);
     EXPECT(verdict.refused == 0 && memcmp(classes, wanted, sizeof classes) == 0);
 
     ngeunsadok_count count = ngeunsadok_merge_triangle_pairs(x, 4, y, 4, triangles, 6, twins, 6, classes, 6, quads, 3);
     EXPECT(count.refused == 9 && count.place == 1 && count.beside == 0 && count.count == 0 && quads[0] == 77);
     count = ngeunsadok_merge_triangle_pairs(x, 4, y, 4, triangles, 6, twins, 6, classes, 6, quads, 6);
     EXPECT(count.refused == 0 && count.beside == 0 && count.count == 1 && memcmp(quads, square, sizeof quads) == 0);
+}
+
+/* The square with these marks and these y, by this tolerance and this rule: its classes, and its answer as a whole frame, whose workspace
+ * has so many words. Both calls refuse alike, and then every list is as it was. */
+static ngeunsadok_counts ruled(const uint32_t *mark, const float *at, float tolerance, uint32_t rule, size_t words, uint32_t *classes) {
+    const uint32_t rest[6] = {77, 77, 77, 77, 77, 77};
+    ngeunsadok_verdict verdict;
+    ngeunsadok_counts counts;
+
+    reset();
+    memcpy(classes, rest, sizeof rest);
+    verdict = ngeunsadok_classify_all_edges(x, 4, at, 4, angles, 8, mark, 8, spreads, 8, triangles, 6, tolerance, 1, rule, classes, 6);
+    counts = ngeunsadok_label_frame(x, 4, at, 4, angles, 8, mark, 8, spreads, 8, triangles, 6, twins, 6, tolerance, 1.5f, 0.5f, 2, 1, 1, 4,
+                                    rule, work, words, components, 4, entries, 13);
+    EXPECT(verdict.refused == counts.refused && verdict.place == counts.place && counts.beside == 0);
+    if (counts.refused) {
+        EXPECT(memcmp(classes, rest, sizeof rest) == 0 && counts.components == 0 && counts.entries == 0);
+        EXPECT(untouched() && work[0] == 0xFFFFFFFF && work[159] == 0xFFFFFFFF);
+    }
+    return counts;
+}
+
+static void rules(void) {
+    /* in the second list corner 0 has no spread in slot 0, along half-edge 0; in the third all corners have both */
+    const uint32_t lists[3][8] = {{0, 0, 0, 0, 0, 0, 0, 0}, {0, 1, 1, 1, 1, 1, 1, 1}, {1, 1, 1, 1, 1, 1, 1, 1}};
+    const uint32_t kept[6] = {1, 1, 2, 2, 1, 1}, by_drop[3][6] = {{0, 0, 0, 0, 0, 0}, {0, 1, 0, 2, 1, 1}, {1, 1, 2, 2, 1, 1}};
+    const float far[4] = {0, 0, 10, 2000000}, nan = from_bits(0x7FC00000);
+    uint32_t classes[6];
+    ngeunsadok_counts counts;
+    size_t k;
+
+    for (k = 0; k < 3; k++) {
+        counts = ruled(lists[k], y, 0.25f, KEEP, 160, classes);
+        EXPECT(counts.refused == 0 && counts.components == 1 && counts.entries == 4 && memcmp(classes, kept, sizeof kept) == 0);
+        counts = ruled(lists[k], y, 0.25f, DROP, 160, classes);
+        EXPECT(counts.refused == 0 && memcmp(classes, by_drop[k], sizeof classes) == 0);
+        EXPECT(k == 2 ? counts.components == 1 && counts.entries == 4 : counts.components == 0 && counts.entries == 0);
+    }
+    for (k = 0; k < 3; k++) {
+        counts = ruled(lists[k], y, 0.25f, no_rules[k], 160, classes);
+        EXPECT(counts.refused == NGEUNSADOK_RULE && counts.place == 0);
+        /* behind 3; before 4 and 8 */
+        counts = ruled(lists[k], far, nan, no_rules[k], 159, classes);
+        EXPECT(counts.refused == NGEUNSADOK_PARAMETER && counts.place == 0);
+        counts = ruled(lists[k], far, 0.25f, no_rules[k], 159, classes);
+        EXPECT(counts.refused == NGEUNSADOK_RULE && counts.place == 0);
+        counts = ruled(lists[k], far, 0.25f, DROP, 159, classes);
+        EXPECT(counts.refused == NGEUNSADOK_RANGE && counts.place == 3);
+    }
 }
 
 static void filters(void) {
@@ -164,7 +236,7 @@ static void structs(void) {
 
     EXPECT(bits(params.tolerance) == 0x3E860A92 && bits(params.ratio) == 0x3FC00000 && bits(params.least) == 0x3ECCCCCD);
     EXPECT(bits(params.greatest) == 0x40200000 && bits(params.limit) == 0x3F19999A);
-    EXPECT(params.leastquads == 1 && params.leastcorners == 4);
+    EXPECT(params.leastquads == 1 && params.leastcorners == 4 && params.rule == KEEP);
     EXPECT(NGEUNSADOK_FRAME_COMPONENTS(6) == 1 && NGEUNSADOK_FRAME_ENTRIES(6) == 4);
     counts = ngeunsadok_label(&square_frame, &params, work, 160, &component, 1, entry, 4);
     EXPECT(counts.refused == NGEUNSADOK_DONE && counts.components == 1 && counts.entries == 4);
@@ -176,7 +248,8 @@ static void structs(void) {
     EXPECT(counts.refused == NGEUNSADOK_RECORDS && counts.place == 1);
 }
 
-/* Each parameter of the struct reaches its own argument: NaN in one is refused with its own place, and the leasts drop the component. */
+/* Each parameter of the struct reaches its own argument: NaN in one is refused with its own place, whatever the rule, the leasts drop the
+ * component, and so does rule 2, as no axis has a spread. The rule is the last field, which an initialiser that ends before it leaves 0. */
 static void parameters(void) {
     const ngeunsadok_frame square_frame = {4, x, y, angles, marks, spreads, 6, triangles, twins};
     const ngeunsadok_params defaults = NGEUNSADOK_DEFAULT_PARAMS;
@@ -192,6 +265,9 @@ static void parameters(void) {
         *at[k] = from_bits(0x7FC00000);
         counts = ngeunsadok_label(&square_frame, &params, work, 160, &component, 1, entry, 4);
         EXPECT(counts.refused == NGEUNSADOK_PARAMETER && counts.place == k);
+        params.rule = 0;
+        counts = ngeunsadok_label(&square_frame, &params, work, 160, &component, 1, entry, 4);
+        EXPECT(counts.refused == NGEUNSADOK_PARAMETER && counts.place == k);
     }
     for (k = 0; k < 4; k++) {
         ngeunsadok_params params = defaults;
@@ -200,6 +276,16 @@ static void parameters(void) {
         params.leastcorners = k < 2 ? 4 : 2 + k;
         EXPECT(ngeunsadok_label(&square_frame, &params, work, 160, &component, 1, entry, 4).components == (k == 0 || k == 2));
     }
+    for (k = 0; k < 4; k++) {
+        ngeunsadok_params params = defaults;
+        ngeunsadok_counts counts;
+
+        params.rule = k;
+        counts = ngeunsadok_label(&square_frame, &params, work, 160, &component, 1, entry, 4);
+        EXPECT(counts.refused == (k == 1 || k == 2 ? NGEUNSADOK_DONE : NGEUNSADOK_RULE) && counts.place == 0);
+        EXPECT(counts.components == (k == 1));
+    }
+    EXPECT(offsetof(ngeunsadok_params, rule) + sizeof defaults.rule == sizeof defaults);
 }
 
 /* A null pointer is a list of no elements. */
@@ -210,7 +296,7 @@ static void nothing(void) {
     ngeunsadok_counts counts = ngeunsadok_label(&none, &params, NULL, 0, NULL, 0, NULL, 0);
 
     EXPECT(counts.refused == 0 && counts.place == 0 && counts.components == 0 && counts.entries == 0);
-    EXPECT(ngeunsadok_classify_all_edges(NULL, 0, NULL, 0, NULL, 0, NULL, 0, NULL, 0, NULL, 0, 0.25f, 1, NULL, 0).refused == 0);
+    EXPECT(ngeunsadok_classify_all_edges(NULL, 0, NULL, 0, NULL, 0, NULL, 0, NULL, 0, NULL, 0, 0.25f, 1, DROP, NULL, 0).refused == 0);
     count = ngeunsadok_merge_triangle_pairs(NULL, 0, NULL, 0, NULL, 0, NULL, 0, NULL, 0, NULL, 0);
     EXPECT(count.refused == 0 && count.count == 0);
     count = ngeunsadok_filter_quads(NULL, 0, NULL, 0, NULL, 0, 1.5f, 0.5f, 2, NULL, 0, NULL, 0);
@@ -236,11 +322,13 @@ static void no_room(void) {
 
 /* Each refusal has words of its own, and a number without a row has some too. */
 static void words(void) {
+    const uint32_t rows[15] = {0, 1, 2, 3, NGEUNSADOK_RULE, 4, 5, 6, 7, 11, 12, 8, 9, 10, 77};
     uint32_t k, other;
 
-    for (k = 0; k <= 13; k++)
-        for (other = 0; other < k; other++) EXPECT(strcmp(ngeunsadok_words(k), ngeunsadok_words(other)) != 0);
-    EXPECT(strcmp(ngeunsadok_words(13), ngeunsadok_words(77)) == 0);
+    for (k = 0; k < 15; k++)
+        for (other = 0; other < k; other++) EXPECT(strcmp(ngeunsadok_words(rows[k]), ngeunsadok_words(rows[other])) != 0);
+    for (k = 13; k < 30; k++) EXPECT((strcmp(ngeunsadok_words(k), ngeunsadok_words(77)) == 0) == (k != 18));
+    EXPECT(strstr(ngeunsadok_words(NGEUNSADOK_RULE), "rule") != NULL);
     EXPECT(strstr(ngeunsadok_words(NGEUNSADOK_TWIN_PAST_END), "twin") != NULL);
     EXPECT(strstr(ngeunsadok_words(NGEUNSADOK_TWIN_NOT_BACK), "twin") != NULL);
     EXPECT(strstr(ngeunsadok_words(NGEUNSADOK_TWIN_ELSEWHERE), "twin") != NULL);
@@ -252,6 +340,7 @@ int main(void) {
     frame();
     twin_faults();
     stages();
+    rules();
     filters();
     labels();
     structs();

@@ -1,8 +1,8 @@
 // The archive's calls as functions over a frame's lists of any length: each call is total, so nothing has to be tested first. The safe
-// package has the calls that lend no records; to the others a list is lent that need not be of whole records, which its types cannot say.
+// package has the calls on single numbers; the others are given a number that need not be a spread rule, or lent a list that need not be of
+// whole records, which its types cannot say.
 
 use frame::Frame;
-use ngeunsadok::{Axes, EdgeParams, Positions};
 use oracle::calls::Given;
 use oracle::judge::Refusal;
 
@@ -36,10 +36,29 @@ pub fn angle(dx: f32, dy: f32) -> Result<f32, Refusal> {
 
 /// Writes the classes. The frame's twins are not read.
 pub fn classify_all_edges(frame: &Frame, classes: &mut [u32]) -> Result<(), Refusal> {
-    let corners = Positions { x: &frame.x, y: &frame.y };
-    let axes = Axes { angles: &frame.angles, marks: &frame.marks, spreads: &frame.spreads };
-    let params = EdgeParams { tolerance: frame.params.tolerance, limit: frame.params.spread_limit };
-    ngeunsadok::classify_all_edges(corners, axes, &frame.triangles, params, classes).map_err(by_row)
+    let params = &frame.params;
+    let verdict = unsafe {
+        raw::ngeunsadok_classify_all_edges(
+            frame.x.as_ptr(),
+            frame.x.len(),
+            frame.y.as_ptr(),
+            frame.y.len(),
+            frame.angles.as_ptr(),
+            frame.angles.len(),
+            frame.marks.as_ptr(),
+            frame.marks.len(),
+            frame.spreads.as_ptr(),
+            frame.spreads.len(),
+            frame.triangles.as_ptr(),
+            frame.triangles.len(),
+            params.tolerance,
+            params.spread_limit,
+            params.spread_rule,
+            classes.as_mut_ptr(),
+            classes.len(),
+        )
+    };
+    told(verdict.refused, verdict.place, 0, ())
 }
 
 /// How many quads there are. The frame's axes and parameters are not read.
@@ -137,6 +156,7 @@ pub fn label_frame(frame: &Frame, [work, components, entries]: [&mut [u32]; 3]) 
             params.spread_limit,
             params.least_quads,
             params.least_corners,
+            params.spread_rule,
             work.as_mut_ptr(),
             work.len(),
             components.as_mut_ptr(),

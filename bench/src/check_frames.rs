@@ -1,5 +1,6 @@
 // Whole frames of the archive beside the ruled Rust, every word of the lists that they are lent; on the same frames the calls of the
-// stages between; and all of it beside the unchanged Rust, where document 01 owes equality and where it does not.
+// stages between; and all of it beside the unchanged Rust, where document 01 owes equality and where it does not. The Rust has spread rule 1,
+// and equality is owed by that one; by rule 2 it gets NaN for a missing spread.
 
 use crate::archive;
 use crate::stages::{Stages, OURS, RULED};
@@ -25,8 +26,9 @@ struct Frames {
     kept: [Beside<1>; 3],
     /// The stages beside those of a run of the whole by the ruled Rust.
     run: Tally,
-    /// The frame and its stages beside the unchanged Rust's: in scope by the letter, by the narrow reading, out of both.
-    unchanged: [Tally; 3],
+    /// The frame and its stages beside the unchanged Rust's: in scope by the letter, by the narrow reading, out of both; by spread rule 1,
+    /// then by 2.
+    unchanged: [[Tally; 3]; 2],
     /// Accepted frames with as many corners and half-edges as there may be.
     full: u64,
 }
@@ -52,7 +54,7 @@ impl Frames {
         }
         if let Some(unchanged) = &expected.unchanged {
             let same = ours == unchanged.told && stages.are_those_of(&unchanged.between);
-            self.add_unchanged(same, unchanged, size, name);
+            self.add_unchanged(same, unchanged, frame.params.spread_rule, size, name);
         }
         if ours.result.is_ok() && frame.corners() == MOST_CORNERS && size == MOST_HALF_EDGES {
             self.full += 1;
@@ -71,10 +73,11 @@ impl Frames {
         ours
     }
 
-    fn add_unchanged(&mut self, same: bool, unchanged: &Unchanged, size: usize, name: impl Fn() -> String) {
+    /// The frame was accepted, so that its rule is 1 or 2.
+    fn add_unchanged(&mut self, same: bool, unchanged: &Unchanged, rule: u32, size: usize, name: impl Fn() -> String) {
         let scope = unchanged.scope;
         let counted = [scope.letter, scope.narrow, !scope.letter && !scope.narrow];
-        let tallies = self.unchanged.iter_mut().zip(counted).filter(|(_, counted)| *counted);
+        let tallies = self.unchanged[rule as usize - 1].iter_mut().zip(counted).filter(|(_, counted)| *counted);
         tallies.for_each(|(tally, _)| tally.add(same, size, &name));
     }
 
@@ -86,10 +89,12 @@ impl Frames {
         same &= self.quads.print("quads", &["quads"]);
         self.kept.iter().zip(FILTERS).for_each(|(kept, name)| same &= kept.print(name, &["kept"]));
         same &= self.run.print("these stages beside those of the whole run");
-        let [letter, narrow, outside] = &self.unchanged;
-        same &= letter.print("beside the unchanged Rust, in scope by the letter");
-        same &= narrow.print("beside the unchanged Rust, in scope by the narrow reading");
-        outside.print_counts("beside the unchanged Rust, out of both");
+        for (rule, [letter, narrow, outside]) in (1..).zip(&self.unchanged) {
+            let name = |scope: &str| format!("beside the unchanged Rust by spread rule {rule}, {scope}");
+            same &= letter.print(&name("in scope by the letter"));
+            same &= narrow.print(&name("in scope by the narrow reading"));
+            outside.print_counts(&name("out of both"));
+        }
         same
     }
 }
@@ -122,6 +127,27 @@ mod tests {
         assert_eq!(quads.parted(&theirs), None);
         assert_eq!(quads.result.err(), ours.result.err());
         ours.result.err()
+    }
+
+    /// Numbers of spread rules, and some that are none.
+    const RULES: [u32; 5] = [1, 2, 0, 3, u32::MAX];
+
+    #[test]
+    fn drawn_frames_by_every_rule() {
+        let (mut frames, mut parted) = (Frames::default(), 0);
+        for number in 0..600 {
+            let told = RULES.map(|rule| {
+                let mut case = drawn(1, number as usize).case;
+                case.frame.params.spread_rule = rule;
+                frames.add(number, &case);
+                expected(&case).told
+            });
+            parted += u32::from(told[0] != told[1]);
+        }
+        assert!(frames.print());
+        // three of the numbers are no rule, and rows 1 to 3 come before
+        let refused = [frames.frames.refused_by(18), frames.classes.refused_by(18), frames.quads.refused_by(18)];
+        assert!(parted > 50 && refused[0] > 1_600 && refused[1] >= refused[0] && refused[2] == 0, "{parted} {refused:?}");
     }
 
     #[test]

@@ -128,3 +128,17 @@ pub fn run() {
     println!("The Rust is the unchanged one, with atan2; its lists are in its own form before its time begins.");
     timing::say_what_is_lent();
 }
+
+#[cfg(test)]
+mod tests {
+    use super::*;
+
+    /// No axis of the grid has a spread: by rule 2 the Rust finds nothing in it.
+    #[test]
+    fn the_rust_by_either_rule() {
+        let mut frame = meshes::perfect(4);
+        assert_eq!(Prepared::of(&frame).run(), [1, 16]);
+        frame.params.spread_rule = 2;
+        assert_eq!(Prepared::of(&frame).run(), [0, 0]);
+    }
+}

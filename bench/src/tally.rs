@@ -2,6 +2,7 @@
 
 use oracle::judge::Refusal;
 use oracle::told::Told;
+use std::collections::BTreeMap;
 
 /// Counts what differs and keeps the smallest, the first of those.
 #[derive(Default)]
@@ -45,13 +46,13 @@ pub struct Beside<const COUNTS: usize> {
     tally: Tally,
     /// The sums of the counts of accepted cases.
     sums: [usize; COUNTS],
-    /// Refusals by row.
-    refused: [u64; 13],
+    /// Refusals by row; a row that refused nothing is not in it.
+    refused: BTreeMap<u32, u64>,
 }
 
 impl<const COUNTS: usize> Default for Beside<COUNTS> {
     fn default() -> Self {
-        Beside { tally: Tally::default(), sums: [0; COUNTS], refused: [0; 13] }
+        Beside { tally: Tally::default(), sums: [0; COUNTS], refused: BTreeMap::new() }
     }
 }
 
@@ -68,8 +69,14 @@ impl<const COUNTS: usize> Beside<COUNTS> {
         self.tally.add(parted.is_none(), size, || format!("{}: {}", parted.unwrap_or_default(), case()));
         match ours.result {
             Ok(counts) => self.sums.iter_mut().zip(counts).for_each(|(sum, count)| *sum += count),
-            Err(Refusal { row, .. }) => self.refused[row as usize] += 1,
+            Err(Refusal { row, .. }) => *self.refused.entry(row).or_default() += 1,
         }
+    }
+
+    /// How many cases a row refused.
+    #[cfg(test)]
+    pub fn refused_by(&self, row: u32) -> u64 {
+        self.refused.get(&row).copied().unwrap_or(0)
     }
 
     /// Prints it, each count with its name; says whether none differs.
@@ -77,7 +84,7 @@ impl<const COUNTS: usize> Beside<COUNTS> {
     pub fn print(&self, name: &str, counts: &[&str; COUNTS]) -> bool {
         let same = self.tally.print(name);
         let sums: Vec<String> = self.sums.iter().zip(counts).map(|(sum, count)| format!("{sum} {count}")).collect();
-        println!("  accepted: {}; refused by rows 1 to 12: {:?}", sums.join(", "), &self.refused[1..]);
+        println!("  accepted: {}; refused by row: {:?}", sums.join(", "), self.refused);
         same
     }
 }
@@ -103,6 +110,17 @@ mod tests {
         beside.add(&told(0), &told(0), 0, String::new);
         assert!(beside.print("the same", &["counted"]));
         beside.add(&told(0), &told(1), 0, String::new);
+        assert!(!beside.print("not the same", &["counted"]));
+    }
+
+    #[test]
+    fn refusals_are_counted_by_row() {
+        let mut beside: Beside<1> = Beside::default();
+        let told = |row| Told { result: Err(Refusal { row, place: 0, beside: 0 }), lists: [vec![7]] };
+        [18, 3, 18].iter().for_each(|&row| beside.add(&told(row), &told(row), 0, String::new));
+        assert_eq!([3, 4, 18].map(|row| beside.refused_by(row)), [1, 0, 2]);
+        assert!(beside.print("the same", &["counted"]));
+        beside.add(&told(18), &told(3), 0, String::new);
         assert!(!beside.print("not the same", &["counted"]));
     }
 

@@ -1,8 +1,9 @@
 // Labels a frame: sixteen corners of a plate of 3 by 3 squares, tilted, with their axes and a triangulation. Prints where each corner stands
-// on the plate's lattice, then two calls that are refused, in words. `cargo run --release --example frame`; tools/try-all holds what it
-// prints against frame.expected.
+// on the plate's lattice, then what is left by the other spread rule, then two calls that are refused, in words.
+// `cargo run --release --example frame`; tools/try-all holds what it prints against frame.expected.
 
-use ngeunsadok::{frame_work, label_frame, twins_of, Axes, Component, Entry, Frame, Labels, Params, Positions, Refusal};
+use ngeunsadok::{frame_work, label_frame, twins_of, Axes, Component, EdgeParams, Entry};
+use ngeunsadok::{Frame, Labels, Params, Positions, Refusal, SpreadRule};
 
 const SIDE: u32 = 4;
 
@@ -37,6 +38,9 @@ fn print(answer: Result<Labels, Refusal>) {
         Ok(labels) => labels,
         Err(refusal) => return println!("refused {}, place {}: {refusal}", refusal.number(), refusal.place()),
     };
+    if labels.components.is_empty() {
+        println!("no component");
+    }
     for (k, component) in labels.components.iter().enumerate() {
         println!("component {k}: corners {}, holes {}", component.entries, component.holes);
         for entry in labels.entries_of(component) {
@@ -51,6 +55,11 @@ fn short_of_room(frame: Frame) -> Result<Labels, Refusal> {
     let (mut components, mut entries) = (vec![Component::default(); 1], vec![Entry::default(); 15]);
     label_frame(frame, Params::default(), &mut work, &mut components, &mut entries)?;
     Ok(Labels { components, entries })
+}
+
+/// Where a missing spread says that the finder gave up: the axis along a column does not count.
+fn strict() -> Params {
+    Params { edges: EdgeParams { rule: SpreadRule::MissingUninformative, ..EdgeParams::default() }, ..Params::default() }
 }
 
 fn main() {
@@ -69,6 +78,7 @@ fn main() {
     let axes = Axes { angles: &angles, marks: &marks, spreads: &spreads };
     let frame = Frame { corners, axes, triangles: &triangles, twins: &twins };
     print(frame.label(Params::default()));
+    print(frame.label(strict()));
     print(short_of_room(frame));
 
     // a twin that does not point back

@@ -86,7 +86,7 @@ pub fn label_frame(
             triangles.as_ptr(), triangles.len(),
             twins.as_ptr(), twins.len(),
             edges.tolerance, filters.ratio, filters.least, filters.greatest, edges.limit,
-            labels.quads, labels.corners,
+            labels.quads, labels.corners, edges.rule.number(),
             work.as_mut_ptr(), work.len(),
             components.as_mut_ptr().cast(), 3 * components.len(),
             entries.as_mut_ptr().cast(), 3 * entries.len(),

@@ -24,6 +24,11 @@
 //! # Ok::<(), ngeunsadok::Refusal>(())
 //! ```
 //!
+//! # Missing spreads
+//!
+//! An axis may come without a spread. By default it counts, as in the original Rust library. Where the corner finder leaves a spread out
+//! because its fit gave up, [`SpreadRule::MissingUninformative`] in [`EdgeParams`] makes such an axis count for nothing.
+//!
 //! # Refusals
 //!
 //! Every call is total: it answers, or it refuses and says why and where ([`Refusal`]). A refusal leaves the lists that are written
@@ -62,7 +67,7 @@ mod twins;
 pub use frame::{frame_work, label_frame, Frame, Labels, Params};
 pub use labels::{filter_quads, label_components, quad_work};
 pub use labels::{Component, Counts, Entry, FilterParams, LabelParams};
-pub use numbers::{angle, axis_cache, axis_distance, float_settings_hold, root, Axis, AxisCache};
+pub use numbers::{angle, axis_cache, axis_distance, float_settings_hold, root, Axis, AxisCache, SpreadRule};
 pub use refusal::Refusal;
 pub use stages::{classify_all_edges, merge_triangle_pairs, NO_TWIN};
 pub use stages::{Axes, EdgeParams, Mesh, Positions, Quad};

@@ -42,8 +42,26 @@ pub struct AxisCache {
     pub informative: [bool; 2],
 }
 
-/// The axis cache of one corner. A missing spread is informative, another where it is finite and below the limit.
-pub fn axis_cache(axes: [Axis; 2], limit: f32) -> Result<AxisCache, Refusal> {
+/// What a missing spread says of its axis. By either rule an axis that has a spread is informative where that is finite and below the limit.
+#[derive(Clone, Copy, Debug, Default, PartialEq, Eq)]
+pub enum SpreadRule {
+    /// 1: an axis without a spread is informative, as in the original Rust library.
+    #[default]
+    MissingInformative = 1,
+    /// 2: an axis without a spread is not informative. For a corner finder that leaves a spread out where its fit gave up.
+    MissingUninformative = 2,
+}
+
+impl SpreadRule {
+    /// The rule's number.
+    pub const fn number(self) -> u32 {
+        self as u32
+    }
+}
+
+/// The axis cache of one corner. An axis is informative where its spread is finite and below the limit; the rule says whether one without a
+/// spread is.
+pub fn axis_cache(axes: [Axis; 2], limit: f32, rule: SpreadRule) -> Result<AxisCache, Refusal> {
     let [first, second] = axes;
     // SAFETY: numbers alone cross the boundary.
     let cache = unsafe {
@@ -55,6 +73,7 @@ pub fn axis_cache(axes: [Axis; 2], limit: f32) -> Result<AxisCache, Refusal> {
             second.spread.is_some().into(),
             second.spread.unwrap_or(0.0),
             limit,
+            rule.number(),
         )
     };
     let informative = [cache.informative0 == 1, cache.informative1 == 1];

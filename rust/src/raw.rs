@@ -59,6 +59,7 @@ extern "C" {
         marked1: u32,
         spread1: f32,
         limit: f32,
+        rule: u32,
     ) -> Cache;
     pub fn ngeunsadok_label_frame(
         x: *const f32,
@@ -82,6 +83,7 @@ extern "C" {
         limit: f32,
         least_quads: u32,
         least_corners: u32,
+        rule: u32,
         work: *mut u32,
         work_words: usize,
         components: *mut u32,
@@ -104,6 +106,7 @@ extern "C" {
         triangle_words: usize,
         tolerance: f32,
         limit: f32,
+        rule: u32,
         classes: *mut u32,
         class_count: usize,
     ) -> Verdict;

@@ -18,6 +18,9 @@ pub enum Refusal {
     Limit,
     /// 3: a parameter is NaN: 0 tolerance, 1 opposing ratio, 2 least relative length, 3 greatest relative length, 4 spread limit.
     Parameter { place: u32 },
+    /// 18: the spread rule is neither 1 nor 2. The calls of this package never give it: their rules are those of
+    /// [`SpreadRule`](crate::SpreadRule).
+    Rule,
     /// 4: a position is not finite or above 1,048,576 in magnitude. Of a call that takes single numbers, one of them is out of range, and
     /// the corner is 0.
     Range { corner: u32 },
@@ -48,6 +51,7 @@ impl Refusal {
             Refusal::Lengths => 1,
             Refusal::Limit => 2,
             Refusal::Parameter { .. } => 3,
+            Refusal::Rule => 18,
             Refusal::Range { .. } => 4,
             Refusal::Named { .. } => 5,
             Refusal::Twice { .. } => 6,
@@ -64,7 +68,7 @@ impl Refusal {
     /// The row's place: what the case carries, of a half-edge and its twin the half-edge, or 0 where it carries nothing.
     pub const fn place(self) -> u32 {
         match self {
-            Refusal::Lengths | Refusal::Limit => 0,
+            Refusal::Lengths | Refusal::Limit | Refusal::Rule => 0,
             Refusal::Parameter { place } | Refusal::Other { place, .. } => place,
             Refusal::Range { corner } => corner,
             Refusal::Named { position } => position,
@@ -93,6 +97,7 @@ impl Refusal {
             (1, 0, 0) => Refusal::Lengths,
             (2, 0, 0) => Refusal::Limit,
             (3, 0..=4, 0) => Refusal::Parameter { place },
+            (18, 0, 0) => Refusal::Rule,
             (4, corner, 0) => Refusal::Range { corner },
             (5, position, 0) => Refusal::Named { position },
             (6, cell, 0) => Refusal::Twice { cell },
@@ -127,6 +132,7 @@ impl fmt::Display for Refusal {
             Refusal::Parameter { place } => {
                 write!(f, "the {} is NaN", PARAMETERS.get(place as usize).unwrap_or(&"parameter"))
             }
+            Refusal::Rule => write!(f, "the spread rule is neither 1 nor 2"),
             Refusal::Range { corner: 0 } => write!(f, "the position of corner 0, or the single number given, is out of range"),
             Refusal::Range { corner } => write!(f, "the position of corner {corner} is out of range"),
             Refusal::Named { position } => {
@@ -190,8 +196,16 @@ mod tests {
         assert_eq!(told(13, 3, 2, ()), other(13, 3, 2));
         assert_eq!(told(1, 3, 0, ()), other(1, 3, 0));
         assert_eq!(told(3, 5, 0, ()), other(3, 5, 0));
+        assert_eq!(told(18, 1, 0, ()), other(18, 1, 0));
         assert_eq!(told(10, 4, 2, ()), other(10, 4, 2));
         assert_eq!(Refusal::of(13, 3, 2).to_string(), "refusal 13 at place 3, beside it 2");
+    }
+
+    #[test]
+    fn another_rule_has_place_0() {
+        assert_eq!(told(18, 0, 0, ()), Err(Refusal::Rule));
+        assert_eq!(Refusal::Rule.to_string(), "the spread rule is neither 1 nor 2");
+        assert_eq!(Refusal::Rule.beside(), None);
     }
 
     #[test]

@@ -1,5 +1,6 @@
 //! From a triangulation to quads: the classes of half-edges, and the quads of triangle pairs.
 
+use crate::numbers::SpreadRule;
 use crate::raw;
 use crate::refusal::{told, Refusal};
 
@@ -17,7 +18,7 @@ pub struct Positions<'a> {
 }
 
 /// The axes of the corners: two slots a corner in each list, corner k at 2k and 2k + 1. Angles and spreads are in radians. A mark of 0 says
-/// that the spread in its slot is missing.
+/// that the spread in its slot is missing, and then the number there is not looked at.
 #[derive(Clone, Copy, Debug)]
 pub struct Axes<'a> {
     pub angles: &'a [f32],
@@ -33,11 +34,13 @@ pub struct EdgeParams {
     pub tolerance: f32,
     /// In radians: an axis with a spread of this or more does not count. `max_axis_sigma_rad`, 0.6.
     pub limit: f32,
+    /// Whether an axis without a spread counts. It does in the original, which has no other rule.
+    pub rule: SpreadRule,
 }
 
 impl Default for EdgeParams {
     fn default() -> EdgeParams {
-        EdgeParams { tolerance: 15f32.to_radians(), limit: 0.6 }
+        EdgeParams { tolerance: 15f32.to_radians(), limit: 0.6, rule: SpreadRule::default() }
     }
 }
 
@@ -74,6 +77,7 @@ pub fn classify_all_edges(
             triangles.len(),
             params.tolerance,
             params.limit,
+            params.rule.number(),
             classes.as_mut_ptr(),
             classes.len(),
         )

@@ -30,8 +30,8 @@ fn numbers_of_the_paper() {
 fn an_axis_without_a_spread_is_informative() {
     let axes = [Axis { angle: 0.5, spread: None }, Axis { angle: 1.5, spread: Some(1.0) }];
     let cache = AxisCache { angles: [0.5, 1.5], informative: [true, false] };
-    assert_eq!(axis_cache(axes, 1.0), Ok(cache));
-    assert_eq!(axis_cache(axes, 1.5), Ok(AxisCache { informative: [true, true], ..cache }));
+    assert_eq!(axis_cache(axes, 1.0, SpreadRule::default()), Ok(cache));
+    assert_eq!(axis_cache(axes, 1.5, SpreadRule::default()), Ok(AxisCache { informative: [true, true], ..cache }));
 }
 
 #[test]
@@ -39,7 +39,7 @@ fn the_square_from_triangles_to_entries() {
     let angles = [0.0, std::f32::consts::FRAC_PI_2].repeat(4);
     let axes = Axes { angles: &angles, marks: &[0; 8], spreads: &[0.0; 8] };
     let mut classes = [REST; 6];
-    let params = EdgeParams { tolerance: 0.25, limit: 1.0 };
+    let params = EdgeParams { tolerance: 0.25, limit: 1.0, ..EdgeParams::default() };
     assert_eq!(classify_all_edges(CORNERS, axes, &TRIANGLES, params, &mut classes), Ok(()));
     assert_eq!(classes, [1, 1, 2, 2, 1, 1]);
 

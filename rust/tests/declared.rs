@@ -169,3 +169,14 @@ fn the_same_limits() {
         assert_eq!(number.trim().parse(), Ok(limit), "{called}");
     }
 }
+
+#[test]
+fn the_same_rules() {
+    let header = text("../include/ngeunsadok.h", "/*");
+    let rules =
+        [("MISSING_INFORMATIVE", SpreadRule::MissingInformative), ("MISSING_UNINFORMATIVE", SpreadRule::MissingUninformative)];
+    for (called, rule) in rules {
+        let (number, _) = between(&header, &format!("NGEUNSADOK_{called} = "), "\n").expect(called);
+        assert_eq!(number.trim_end_matches(',').parse(), Ok(rule.number()), "{called}");
+    }
+}

@@ -13,7 +13,7 @@ const SQUARE: Frame = Frame {
     twins: &[NO_TWIN, NO_TWIN, 3, 2, NO_TWIN, NO_TWIN],
 };
 const PARAMS: Params = Params {
-    edges: EdgeParams { tolerance: 0.25, limit: 1.0 },
+    edges: EdgeParams { tolerance: 0.25, limit: 1.0, rule: SpreadRule::MissingInformative },
     filters: FilterParams { ratio: 1.5, least: 0.5, greatest: 2.0 },
     labels: LabelParams { quads: 1, corners: 4 },
 };
@@ -71,6 +71,7 @@ fn a_frame_without_corners() {
 fn the_defaults_are_the_originals() {
     let Params { edges, filters, labels } = Params::default();
     assert_eq!([edges.tolerance, edges.limit].map(f32::to_bits), [0x3E860A92, 0x3F19999A]);
+    assert_eq!(edges.rule, SpreadRule::MissingInformative);
     let filters = [filters.ratio, filters.least, filters.greatest].map(f32::to_bits);
     assert_eq!(filters, [0x3FC00000, 0x3ECCCCCD, 0x40200000]);
     assert_eq!([labels.quads, labels.corners], [1, 4]);

@@ -1,5 +1,5 @@
 // Each row of the refusal table from a call that gives it: its number, its place, its words, and what it leaves of the lists. The rows of a
-// wrong twin are in twin_faults.rs.
+// wrong twin are in twin_faults.rs, that of the spread rule in spread_rules.rs.
 
 use ngeunsadok::*;
 
@@ -60,13 +60,13 @@ fn rows_of_single_numbers() {
     refused(root(-1.0), 4, 0, "the single number given");
     refused(angle(f32::NAN, 0.0), 4, 0, "the single number given");
     let axis = Axis { angle: 0.0, spread: None };
-    refused(axis_cache([axis, axis], f32::NAN), 3, 4, "spread limit is NaN");
+    refused(axis_cache([axis, axis], f32::NAN, SpreadRule::default()), 3, 4, "spread limit is NaN");
 }
 
 #[test]
 fn rows_of_the_classes() {
     let axes = Axes { angles: &[0.0; 8], marks: &[0; 8], spreads: &[0.0; 8] };
-    let params = EdgeParams { tolerance: f32::NAN, limit: 1.0 };
+    let params = EdgeParams { tolerance: f32::NAN, ..EdgeParams::default() };
     let mut classes = [REST; 6];
     refused(classify_all_edges(CORNERS, axes, &[0, 1, 2, 0, 2, 3], params, &mut classes), 3, 0, "tolerance is NaN");
     refused(classify_all_edges(CORNERS, axes, &[0, 1, 2, 0, 2], params, &mut classes[..5]), 1, 0, "not whole");

@@ -25,7 +25,7 @@ fn single_numbers() {
         root(f32::from_bits(1)).expect("a root");
         angle(-3.0, 5.0).expect("an angle");
         axis_distance(1e30, 1.0).expect("a distance");
-        axis_cache([axis, axis], 1.0).expect("a cache");
+        axis_cache([axis, axis], 1.0, SpreadRule::default()).expect("a cache");
     });
 }
 
