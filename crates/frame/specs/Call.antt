@@ -1,5 +1,5 @@
--- The call `label_frame` whole: rows 1 to 7 in order, 18 behind 3, row 8, rows 9 and 10, or the components and their entries at the fronts of their
--- lists. The workspace is all zero after rows 9 and 10 and on success, and untouched by every other refusal.
+-- The call `label_frame` whole: rows 1 to 7 in order, 18 behind 3, row 8, rows 9 and 10, or the components and their entries at the fronts
+-- of their lists. The workspace is all zero after rows 9 and 10 and on success, and untouched by every other refusal.
 use mathlib.Core.Path.{_≡_}
 use mathlib.Core.List.{List}
 use Prim.Native.Nat.{ℕ}

@@ -18,7 +18,7 @@ no-tolerance = framed (bits 0x7FC00000) (noTwin ∷ noTwin ∷ 3 ∷ 2 ∷ noTwi
 abbrev pub one-sided : Input
 one-sided = framed (bits 0x3E800000) (noTwin ∷ noTwin ∷ 3 ∷ noTwin ∷ noTwin ∷ noTwin ∷ [])
 
--- by a rule, with a spread limit and a first corner's x as they are given
+-- one corner and no triangles; the rule, the spread limit and the corner's x, the last two by their bits, are given
 abbrev pub ruled : (rule limit x : ℕ) → Input
 ruled rule limit x =
     record {

@@ -71,11 +71,12 @@ no-third : judgeOf (inputOf (alone (Optional.given 3))) ≡ Shut NoSuchRule
 unfolding ofBits isNan lengthsGate paramsGate valuesGate judgeOf inputOf paramsOf ruleOf paramsWith flatMap
 no-third = refl
 
-refused-eighteen : refusedText NoSuchRule ≡ 114 ∷ 101 ∷ 102 ∷ 117 ∷ 115 ∷ 101 ∷ 100 ∷ 32 ∷ 49 ∷ 56 ∷ 32 ∷ 48 ∷ 10 ∷ []
+-- "refused 18 0"
+pub refused-eighteen : refusedText NoSuchRule ≡ 114 ∷ 101 ∷ 102 ∷ 117 ∷ 115 ∷ 101 ∷ 100 ∷ 32 ∷ 49 ∷ 56 ∷ 32 ∷ 48 ∷ 10 ∷ []
 unfolding refusedText numbersLine spaced decimalOf placesIn
 refused-eighteen = refl
 
--- "P .. 1 4 3" is answered by "refused 18 0"
-pub third-rule : Answers (pLine ++ (32 ∷ 51 ∷ 10 ∷ [])) (114 ∷ 101 ∷ 102 ∷ 117 ∷ 115 ∷ 101 ∷ 100 ∷ 32 ∷ 49 ∷ 56 ∷ 32 ∷ 48 ∷ 10 ∷ [])
+-- "P .. 1 4 3" is answered by it
+pub third-rule : Answers (pLine ++ (32 ∷ 51 ∷ 10 ∷ [])) (refusedText NoSuchRule)
 unfolding decimalOf placesIn
-third-rule = subst (Answers (pLine ++ (32 ∷ 51 ∷ 10 ∷ []))) refused-eighteen (Answers.refused (alone (Optional.given 3)) (rule-given 3 (omega arith)) NoSuchRule no-third)
+third-rule = Answers.refused (alone (Optional.given 3)) (rule-given 3 (omega arith)) NoSuchRule no-third

@@ -23,6 +23,7 @@ one-row (k ∷ ks) (f ∷ fs) (g ∷ gs) r s (Fits.more a p) (Fits.more b q) e =
     let t = one-row ks fs gs r s p q (h .1) in
     (cc (h .0, t .0), t .1)
 
+-- of two texts that are one the first bytes are
 one-first : {a b : ℕ} {r s : List ℕ} → a ∷ r ≡ b ∷ s → a ≡ b
 one-first e = ap (λ (l : List ℕ). getD l 0 0) e
 
