@@ -161,7 +161,7 @@ impl Labelling {
     }
 }
 
-fn caches(frame: &Frame) -> Vec<AxisCache> {
+pub(super) fn caches(frame: &Frame) -> Vec<AxisCache> {
     build_axis_caches(&features(frame), frame.params.spread_limit)
 }
 

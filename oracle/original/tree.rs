@@ -7,7 +7,7 @@ use std::{env, fs};
 /// The stages that are compiled, by file name without ending.
 pub const STAGES: [&str; 6] = ["axis", "classify", "quads", "filter", "walk", "delaunay"];
 
-fn manifest_dir() -> PathBuf {
+pub fn manifest_dir() -> PathBuf {
     PathBuf::from(env::var("CARGO_MANIFEST_DIR").expect("cargo sets CARGO_MANIFEST_DIR"))
 }
 
@@ -28,7 +28,8 @@ pub fn original(file: &str) -> PathBuf {
     path
 }
 
-fn module(path: &Path, name: &str, visible: &str) -> String {
+/// The text of a module that compiles a file.
+pub fn module(path: &Path, name: &str, visible: &str) -> String {
     format!("#[path = {:?}]\n{visible}mod {name};\n", path.to_str().expect("a plain path"))
 }
 
@@ -43,7 +44,7 @@ pub fn write_tree(stage: impl Fn(&str) -> PathBuf) {
     text += "pub use circular::angular_dist_pi;\n}\n";
     text += "#[allow(dead_code, unused_imports)]\npub mod topological {\n";
     for name in STAGES {
-        text += &module(&stage(name), name, "");
+        text += &module(&stage(name), name, "pub(crate) ");
     }
     text += &module(&here.join("driver.rs"), "driver", "pub ");
     text += "}\n";

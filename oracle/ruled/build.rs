@@ -1,5 +1,6 @@
-// Copies the original's stages to OUT_DIR with document 01's angle and distance put in
-// for its own, and fails unless exactly the known places were changed.
+// Copies the original's stages to OUT_DIR with document 01's angle and distance put in for its
+// own, and fails unless exactly the known places were changed. Behind the classes' copy a module
+// is added that reads the matches.
 
 #[path = "../original/tree.rs"]
 mod tree;
@@ -48,6 +49,10 @@ fn copy_of(name: &str) -> PathBuf {
     assert_eq!(counts, [place.1, place.2, place.3], "places changed in {name}.rs");
     if place.1 > 0 {
         copy += "use crate::AngleByRule as _;\n";
+    }
+    if name == "classify" {
+        let matches = tree::manifest_dir().join("src/matches.rs");
+        copy += &tree::module(&matches, "matches", "pub ");
     }
     let out =
         PathBuf::from(env::var("OUT_DIR").expect("cargo sets OUT_DIR")).join(format!("{name}.rs"));

@@ -55,13 +55,14 @@ countFrom t = record { refused = t .refused; place = t .place; beside = t .besid
 abbrev pub countsFrom : InNumbers (ℕ × ℕ) → Counts
 countsFrom t = record { refused = t .refused; place = t .place; beside = t .beside; components = t .values .0; entries = t .values .1 }
 
--- what is told of the classes, and the class list after
+-- what is told of the classes, and the lists of classes and of fits after
 pub record ClassesTold : Type 0 where
   pub told : Verdict
   pub classes : List ℕ
+  pub fits : List Float
 
 abbrev pub classesTold : edges.Outcome → ClassesTold
-classesTold o = record { told = verdictFrom (edges.classifiedTold (o .answer)); classes = o .classes }
+classesTold o = record { told = verdictFrom (edges.classifiedTold (o .answer)); classes = o .classes; fits = o .fits }
 
 -- what is told of the quads, and the quad list after
 pub record QuadsTold : Type 0 where

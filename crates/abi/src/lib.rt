@@ -142,9 +142,10 @@ pub extern "C" fn ngeunsadok_classify_all_edges(
     limit: f32,
     rule: u32,
     classes: &mut [u32],
+    fits: &mut [f32],
 ) -> Verdict
-    ensures { λ r. ⌜ _≡_ {A = ClassesTold} (record { told = r; classes = now (classes .exit) })
-        (classesTold (edges.callOf (classing.given (x .entry) (y .entry) (angles .entry) (marks .entry) (spreads .entry) (triangles .entry) (edgesBy tolerance limit rule)) (now (classes .entry)))) ⌝ }
+    ensures { λ r. ⌜ _≡_ {A = ClassesTold} (record { told = r; classes = now (classes .exit); fits = now (fits .exit) })
+        (classesTold (edges.callOf (classing.given (x .entry) (y .entry) (angles .entry) (marks .entry) (spreads .entry) (triangles .entry) (edgesBy tolerance limit rule)) (now (classes .entry)) (now (fits .entry)))) ⌝ }
 {
     let params = edge_params(tolerance, limit, rule);
     tell_classified(classify::classify_all_edges(
@@ -156,6 +157,7 @@ pub extern "C" fn ngeunsadok_classify_all_edges(
         triangles,
         params,
         classes,
+        fits,
     ))
 }
 

@@ -15,7 +15,7 @@ use Rattle.mesh.proofs.Open.{paired-open, limit-open, positions-open, corners-o
 use Rattle.classify.specs.declared.EdgeParams.{EdgeParams}
 use Rattle.classify.specs.Classes.{Input}
 use Rattle.classify.specs.inner.Triangle.{Sound}
-use Rattle.classify.specs.Call.{lengthsGate, valuesGate, gateOf}
+use Rattle.classify.specs.Call.{lengthsGate, valuesGate, gateOf, fittedGate}
 
 -- ---- rows 1 and 2
 
@@ -63,7 +63,7 @@ values-open xs ys triangles p e =
 
 -- ---- all rows
 
-pub gate-sound : (i : Input) (classes : ℕ) → gateOf i classes ≡ Open → Sound i × (classes ≡ length (i .triangles))
+gate-sound : (i : Input) (classes : ℕ) → gateOf i classes ≡ Open → Sound i × (classes ≡ length (i .triangles))
 unfolding gateOf
 gate-sound i classes e =
     let both = open-both _ _ e in
@@ -82,3 +82,10 @@ gate-sound i classes e =
       },
       l .classes-are,
     )
+
+pub fitted-sound : (i : Input) (classes fits : ℕ) → fittedGate i classes fits ≡ Open → Sound i × (classes ≡ length (i .triangles)) × (fits ≡ length (i .triangles))
+unfolding fittedGate
+fitted-sound i classes fits e =
+    let both = open-both _ _ e in
+    let (sound, same) = gate-sound i classes (both .1) in
+    (sound, same, paired-open fits (length (i .triangles)) (both .0))

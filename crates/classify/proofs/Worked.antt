@@ -1,5 +1,5 @@
--- Document 01's frame computed by the definitions: its classes, a distance equal to the tolerance, and the other spread rule; a third
--- is refused. Assumes nothing.
+-- Document 01's frame computed by the definitions: its classes and fits, a distance equal to the tolerance, and the other spread rule; a
+-- third is refused. Assumes nothing.
 use mathlib.Core.Path.{_≡_, refl}
 use mathlib.Core.List.{[], _∷_}
 use Prim.Native.Nat.{ℕ}
@@ -9,11 +9,13 @@ use Rattle.refusal.specs.declared.Gate.the-variants.{Shut}
 use Rattle.refusal.specs.declared.Refusal.the-variants.{NoSuchRule}
 use Rattle.measure.specs.Float.{bits}
 use Rattle.measure.specs.Angle.{seriesOf, partOf, ratioOf, baseOf, octantOf, acrossOf, belowOf, angleRule}
+use Rattle.measure.specs.declared.Distance.the-variants.{Known}
 use Rattle.measure.specs.Distance.{lifted, folded, apart, numberOrNone, distanceOf}
 use Rattle.axis.specs.Cache.{informativeOf, spreadFrom, cacheAt}
 use Rattle.mesh.specs.HalfEdge.{nextOf}
-use Rattle.classify.specs.Match.{offered, nearer, matchOf, sideOf, isBelow, judgedBy, judgedOf, classBy}
+use Rattle.classify.specs.Match.{offered, nearer, matchOf, sideOf, isBelow, noFit, greaterOf, judgedBy, judgedOf, classBy}
 use Rattle.classify.specs.Classes.{Input, axesAt, angleBetween, sideAt, judgedAt, classAt, classesOf}
+use Rattle.classify.specs.Fits.{fitOf, fitAt, fitsOf}
 use Rattle.classify.specs.Call.{valuesGate}
 
 -- four corners of a square with axes along its sides and no spreads, in two triangles
@@ -53,3 +55,22 @@ by-rule-two = refl
 pub no-third : valuesGate (bits 0x7FC00000 ∷ []) (bits 0 ∷ []) [] (frame 3 (bits 0x3E800000) .params) ≡ Shut NoSuchRule
 unfolding frame ofBits isNan valuesGate
 no-third = refl
+
+-- the four sides lie at 0 from their axes, the last of them, which runs down, at -0: its angle is a whole pi below its axis
+pub fits-of-the-frame : fitsOf (frame 1 (bits 0x3E800000)) ≡ bits 0 ∷ bits 0 ∷ noFit ∷ noFit ∷ bits 0 ∷ bits 0x80000000 ∷ []
+unfolding frame neg ofBits round add sub mul div rem lt eq le listing seriesOf partOf ratioOf baseOf octantOf acrossOf belowOf angleRule lifted folded apart numberOrNone distanceOf informativeOf spreadFrom cacheAt nextOf offered nearer matchOf sideOf isBelow judgedBy judgedOf axesAt angleBetween sideAt judgedAt greaterOf fitOf fitAt fitsOf
+fits-of-the-frame = refl
+
+-- with the tolerance next above its distance the diagonal from 0 to 2 is Grid, and that is its fit; its twin's would be the next float
+pub fits-above-the-distance : fitsOf (frame 1 (bits 0x3F490FDC)) ≡ bits 0 ∷ bits 0 ∷ noFit ∷ bits 0x3F490FDB ∷ bits 0 ∷ bits 0x80000000 ∷ []
+unfolding frame neg ofBits round add sub mul div rem lt eq le listing seriesOf partOf ratioOf baseOf octantOf acrossOf belowOf angleRule lifted folded apart numberOrNone distanceOf informativeOf spreadFrom cacheAt nextOf offered nearer matchOf sideOf isBelow judgedBy judgedOf axesAt angleBetween sideAt judgedAt greaterOf fitOf fitAt fitsOf
+fits-above-the-distance = refl
+
+-- of two distances the greater, at either end; of 0 and -0 the start's
+pub greater-of-two : (greaterOf (Known (bits 0x3E800000)) (Known (bits 0x3F000000)) ≡ bits 0x3F000000) × (greaterOf (Known (bits 0x3F000000)) (Known (bits 0x3E800000)) ≡ bits 0x3F000000)
+unfolding ofBits lt greaterOf
+greater-of-two = (refl, refl)
+
+pub start-of-zeros : (greaterOf (Known (bits 0)) (Known (bits 0x80000000)) ≡ bits 0) × (greaterOf (Known (bits 0x80000000)) (Known (bits 0)) ≡ bits 0x80000000)
+unfolding ofBits lt greaterOf
+start-of-zeros = (refl, refl)

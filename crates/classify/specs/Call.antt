@@ -1,4 +1,4 @@
--- The call `classify_all_edges` whole: rows 1 to 6 in order, 18 behind 3, or every half-edge's class in the class list.
+-- The call `classify_all_edges` whole: rows 1 to 6 in order, 18 behind 3, or every half-edge's class and fit in the two lists.
 use mathlib.Core.List.{List}
 use Prim.Native.Nat.{ℕ}
 use lib.Ieee.{Float}
@@ -16,6 +16,7 @@ use Rattle.classify.specs.declared.EdgeParams.{EdgeParams}
 use Rattle.classify.specs.declared.Classified.{Classified}
 use Rattle.classify.specs.declared.Classified.the-variants.{Done, Refused}
 use Rattle.classify.specs.Classes.{Input, classesOf}
+use Rattle.classify.specs.Fits.{fitsOf}
 
 -- rows 1 and 2 look at lengths alone: x, y, axes at two slots a corner; triangles, classes
 unfoldable pub lengthsGate : (x y angles marks spreads triangles classes : ℕ) → Gate
@@ -35,19 +36,24 @@ gateOf i classes =
     lengthsGate (length (i .xs)) (length (i .ys)) (length (i .angles)) (length (i .marks)) (length (i .spreads)) (length (i .triangles)) classes
     then valuesGate (i .xs) (i .ys) (i .triangles) (i .params)
 
+-- and for a fit list: row 1, whose place is 0 whichever list is at fault, begins with its length
+unfoldable pub fittedGate : Input → ℕ → ℕ → Gate
+fittedGate i classes fits = pairedRow fits (length (i .triangles)) then gateOf i classes
+
 -- the answer in 01's numbers
 abbrev pub classifiedTold : Classified → InNumbers Unit
 classifiedTold Done = gives tt
 classifiedTold (Refused why) = refuses tt why
 
--- the answer, and the class list after the call
+-- the answer, and the two lists after the call
 pub record Outcome : Type 0 where
   pub answer : Classified
   pub classes : List ℕ
+  pub fits : List Float
 
-abbrev pub outcomeBy : Gate → Input → List ℕ → Outcome
-outcomeBy Open i classes = record { answer = Done; classes = classesOf i }
-outcomeBy (Shut why) i classes = record { answer = Refused why; classes = classes }
+abbrev pub outcomeBy : Gate → Input → List ℕ → List Float → Outcome
+outcomeBy Open i classes fits = record { answer = Done; classes = classesOf i; fits = fitsOf i }
+outcomeBy (Shut why) i classes fits = record { answer = Refused why; classes = classes; fits = fits }
 
-unfoldable pub callOf : Input → List ℕ → Outcome
-callOf i classes = outcomeBy (gateOf i (length classes)) i classes
+unfoldable pub callOf : Input → List ℕ → List Float → Outcome
+callOf i classes fits = outcomeBy (fittedGate i (length classes) (length fits)) i classes fits

@@ -1,4 +1,5 @@
 pub mod Match
 pub mod Classes
+pub mod Fits
 pub mod Call
 pub mod inner

@@ -1,9 +1,11 @@
--- Document 01, "Classes", at one half-edge: the nearest informative axis at each end, and whether the half-edge is Grid.
+-- Document 01, "Classes", at one half-edge: the nearest informative axis at each end, and whether the half-edge is Grid; document 02, T-06:
+-- the greater of its distances.
 use mathlib.Core.Bool.{Bool, false, cond, _&&_, not}
 use Prim.Native.Nat.{ℕ, zero, suc}
 use lib.Dec.{eqb}
 use lib.Ieee as Ieee
 use lib.Ieee.{Float}
+use Rattle.measure.specs.Float.{bits}
 use Rattle.measure.specs.Distance.{distanceOf}
 use Rattle.measure.specs.declared.Distance.{Distance}
 use Rattle.measure.specs.declared.Distance.the-variants as distance
@@ -47,10 +49,21 @@ unfoldable pub isBelow : Float → Distance → Bool
 isBelow tolerance (distance.Known d) = Ieee.lt d tolerance
 isBelow tolerance distance.Missing = false
 
--- Grid, with the slots, when both ends have a distance strictly below the tolerance; a missing match at either end is Spurious
+-- document 02, T-06: what a half-edge that is not Grid reports, -1
+abbrev pub noFit : Float
+noFit = bits 0xBF800000
+
+-- the greater of the start's distance and the end's, the start's where neither is greater; where one is missing the half-edge is not Grid
+unfoldable pub greaterOf : Distance → Distance → Float
+greaterOf (distance.Known start) (distance.Known end) = cond (Ieee.lt start end) end start
+greaterOf (distance.Known start) distance.Missing = noFit
+greaterOf distance.Missing end = noFit
+
+-- Grid, with the slots and the greater distance, when both ends have a distance strictly below the tolerance; a missing match at either end
+-- is Spurious
 unfoldable pub judgedBy : Float → Match → Match → Judged
 judgedBy tolerance start end =
-    cond (isBelow tolerance (distanceIn start) && isBelow tolerance (distanceIn end)) (judged.Grid (slotIn start) (slotIn end)) judged.Spurious
+    cond (isBelow tolerance (distanceIn start) && isBelow tolerance (distanceIn end)) (judged.Grid (slotIn start) (slotIn end) (greaterOf (distanceIn start) (distanceIn end))) judged.Spurious
 
 unfoldable pub judgedOf : Float → Side → Judged
 judgedOf tolerance side = judgedBy tolerance (side .start) (side .end)
@@ -58,9 +71,9 @@ judgedOf tolerance side = judgedBy tolerance (side .start) (side .end)
 -- the class of a half-edge by its own judgement and those of the two after it in the triangle, which meet where the first of them ends:
 -- the third side of a triangle with exactly two Grid sides whose slots differ at their common corner is Diagonal
 unfoldable pub classBy : Judged → Judged → Judged → Class
-classBy (judged.Grid s0 s1) next last = class.Grid
-classBy judged.Spurious (judged.Grid n0 n1) (judged.Grid l0 l1) = cond (not (eqb n1 l0)) class.Diagonal class.Spurious
-classBy judged.Spurious (judged.Grid n0 n1) judged.Spurious = class.Spurious
+classBy (judged.Grid s0 s1 fit) next last = class.Grid
+classBy judged.Spurious (judged.Grid n0 n1 nfit) (judged.Grid l0 l1 lfit) = cond (not (eqb n1 l0)) class.Diagonal class.Spurious
+classBy judged.Spurious (judged.Grid n0 n1 nfit) judged.Spurious = class.Spurious
 classBy judged.Spurious judged.Spurious last = class.Spurious
 
 -- in a list a class is 0 Spurious, 1 Grid, 2 Diagonal

@@ -1,10 +1,11 @@
-// The rows of the call in order: those on lengths first, then those on the parameters and on what the lists hold.
+// The rows of the call in order: those on lengths first, of them that on the fit list, then those on the parameters and on what the lists
+// hold.
 ghost use mathlib.Core.Path.{_≡_};
 ghost use Prim.Native.Nat.{_≤_};
 ghost use lib.ListN.{length};
 ghost use Rattle.mesh.specs.Lists.{mostCorners, mostHalfEdges};
 ghost use Rattle.classify.specs.Classes.{given};
-ghost use Rattle.classify.specs.Call.{lengthsGate, valuesGate, gateOf};
+ghost use Rattle.classify.specs.Call.{lengthsGate, valuesGate, gateOf, fittedGate};
 use crate::EdgeParams;
 use axis::inner::rule_row;
 use measure::inner::parameter_row;
@@ -20,7 +21,7 @@ use mesh::inner::positions::positions_row;
 use refusal::Gate;
 use refusal::inner::in_order;
 
-// Rows 1 and 2.
+// Rows 1 and 2, without the fits.
 fn lengths_gate(
     x: usize,
     y: usize,
@@ -62,7 +63,7 @@ fn values_gate(x: &[f32], y: &[f32], triangles: &[u32], params: EdgeParams) -> G
     )
 }
 
-pub(crate) fn judge(
+fn judge(
     x: &[f32],
     y: &[f32],
     angles: &[f32],
@@ -87,4 +88,22 @@ pub(crate) fn judge(
         Gate::Open => values_gate(x, y, triangles, params),
         Gate::Shut(why) => Gate::Shut(why),
     }
+}
+
+// All rows, for lists of classes and of fits of those lengths.
+pub(crate) fn judge_fitted(
+    x: &[f32],
+    y: &[f32],
+    angles: &[f32],
+    marks: &[u32],
+    spreads: &[f32],
+    triangles: &[u32],
+    params: EdgeParams,
+    classes: usize,
+    fits: usize,
+) -> Gate
+    ensures { λ r. ⌜ r ≡ fittedGate (given (x .entry) (y .entry) (angles .entry) (marks .entry) (spreads .entry) (triangles .entry) params) classes fits ⌝ }
+{
+    let others = judge(x, y, angles, marks, spreads, triangles, params, classes);
+    in_order(paired_row(fits, triangles.len()), others)
 }

@@ -1,6 +1,7 @@
-// One half-edge: its match at a corner, its judgement, and the class that the judgements of a triangle give it.
+// One half-edge: its match at a corner, its judgement, the class that the judgements of a triangle give it, and its fit.
 ghost use mathlib.Core.Path.{_≡_};
-ghost use Rattle.classify.specs.Match.{offered, nearer, matchOf, sideOf, judgedOf, classBy, classNumber};
+ghost use Rattle.classify.specs.Match.{offered, nearer, matchOf, sideOf, greaterOf, judgedOf, classBy, classNumber};
+ghost use Rattle.classify.specs.Fits.{fitOf};
 use crate::Class;
 use crate::Judged;
 use crate::Match;
@@ -62,6 +63,13 @@ pub(crate) fn side_of(start: AxisCache, end: AxisCache, angle: f32) -> Side
     }
 }
 
+// The start's where neither is greater, as of 0 and -0.
+fn greater(start: f32, end: f32) -> f32
+    ensures { λ r. ⌜ r ≡ greaterOf (Distance.Known start) (Distance.Known end) ⌝ }
+{
+    if start < end { end } else { start }
+}
+
 // A missing match at either end makes the half-edge Spurious at once.
 pub(crate) fn judge_side(side: Side, tolerance: f32) -> Judged
     ensures { λ r. ⌜ r ≡ judgedOf tolerance side ⌝ }
@@ -76,7 +84,8 @@ pub(crate) fn judge_side(side: Side, tolerance: f32) -> Judged
     };
     if start_distance < tolerance {
         if end_distance < tolerance {
-            return Judged::Grid(start_slot, end_slot);
+            let fit = greater(start_distance, end_distance);
+            return Judged::Grid(start_slot, end_slot, fit);
         }
     }
     Judged::Spurious
@@ -89,10 +98,10 @@ pub(crate) fn class_of(own: Judged, next: Judged, last: Judged) -> Class
     let Judged::Spurious = own else {
         return Class::Grid;
     };
-    let Judged::Grid(_, met) = next else {
+    let Judged::Grid(_, met, _) = next else {
         return Class::Spurious;
     };
-    let Judged::Grid(meets, _) = last else {
+    let Judged::Grid(meets, _, _) = last else {
         return Class::Spurious;
     };
     if met == meets {
@@ -110,4 +119,14 @@ pub(crate) fn class_number(class: Class) -> u32
         Class::Grid => 1,
         Class::Diagonal => 2,
     }
+}
+
+// -1 where it is not Grid.
+pub(crate) fn fit_of(own: Judged) -> f32
+    ensures { λ r. ⌜ r ≡ fitOf own ⌝ }
+{
+    let Judged::Grid(_, _, fit) = own else {
+        return -1.0;
+    };
+    fit
 }

@@ -35,7 +35,7 @@ neg-bounded n x (s, m, e, p, h) = (not s, m, e, ap neg p, h)
 
 -- ---- what `le` says of a magnitude and a whole number
 
-or-le : (a b : ℕ) (t : Bool) → (ltb a b || (eqb a b && t)) ≡ true → a ≤ b
+pub or-le : (a b : ℕ) (t : Bool) → (ltb a b || (eqb a b && t)) ≡ true → a ≤ b
 or-le a b t h = go (ltb a b) refl (eqb a b) refl h
   where
     go : (p : Bool) → ltb a b ≡ p → (q : Bool) → eqb a b ≡ q → (p || (q && t)) ≡ true → a ≤ b

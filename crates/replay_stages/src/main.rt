@@ -8,7 +8,7 @@ mod axis_case;
 mod classes_case;
 mod quads_case;
 
-// One case, by its kind; kinds 7 and 8 are 1 and 2 behind the number of a rule; one of no known kind ends the file.
+// One case, by its kind; kinds 7 and 8 are 1 and 2 behind the number of a rule, 10 is 8 with fits; one of no known kind ends the file.
 fn replay(text: &[u8], at: usize) -> usize
     requires { ⌜ at < length (now text) ⌝ }
     ensures { λ r. ⌜ (at < r) × (r ≤ length (now (text .entry))) ⌝ }
@@ -21,7 +21,7 @@ fn replay(text: &[u8], at: usize) -> usize
         return axis_case::replay(text, at + 9, 1);
     }
     if kind == 2 {
-        return classes_case::replay(text, at + 9, 1);
+        return classes_case::replay(text, at + 9, 1, false);
     }
     if kind == 3 {
         return quads_case::replay(text, at + 9);
@@ -32,7 +32,10 @@ fn replay(text: &[u8], at: usize) -> usize
         return axis_case::replay(text, behind, rule);
     }
     if kind == 8 {
-        return classes_case::replay(text, behind, rule);
+        return classes_case::replay(text, behind, rule, false);
+    }
+    if kind == 10 {
+        return classes_case::replay(text, behind, rule, true);
     }
     text.len()
 }

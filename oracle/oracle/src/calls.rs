@@ -2,10 +2,12 @@
 // answer. A refusal leaves the output lists as they were.
 
 mod filters;
+mod fits;
 mod frames;
 mod labels;
 
 pub use filters::filters;
+pub use fits::fits;
 pub use frames::{answer_frame, frame_words, judge_frame, label_frame};
 pub use labels::{labels, Given};
 
@@ -54,14 +56,15 @@ pub fn axis_cache(frame: &Frame) -> Result<AxisPair, Refusal> {
     }
 }
 
-/// Row 1 of classes: two slots a corner, whole triangles, a class for each half-edge.
-fn unpaired_classes(frame: &Frame, classes: &[u32]) -> Option<usize> {
+/// Row 1 of classes: two slots a corner, whole triangles, a class and a fit for each half-edge.
+fn unpaired_classes(frame: &Frame, classes: &[u32], fits: &[f32]) -> Option<usize> {
     let corners = frame.x.len();
     let axes = [frame.angles.len(), frame.marks.len(), frame.spreads.len()];
     let paired = frame.y.len() == corners
         && axes.iter().all(|&length| length == 2 * corners)
         && frame.triangles.len().is_multiple_of(3)
-        && classes.len() == frame.triangles.len();
+        && classes.len() == frame.triangles.len()
+        && fits.len() == frame.triangles.len();
     (!paired).then_some(0)
 }
 
@@ -74,9 +77,9 @@ fn class_parameters(frame: &Frame) -> Option<usize> {
 }
 
 /// The classes call. The frame's twins are no part of it.
-pub fn classes(frame: &Frame, list: &mut [u32]) -> Result<(), Refusal> {
+pub fn classes(frame: &Frame, classes: &mut [u32], fits: &mut [f32]) -> Result<(), Refusal> {
     let rows: [Row; 7] = [
-        (1, &|| unpaired_classes(frame, list)),
+        (1, &|| unpaired_classes(frame, classes, fits)),
         (2, &|| counts(frame)),
         (3, &|| class_parameters(frame)),
         (18, &|| spread_rule(frame)),
@@ -87,7 +90,8 @@ pub fn classes(frame: &Frame, list: &mut [u32]) -> Result<(), Refusal> {
     if let Some(refusal) = first_of(&rows) {
         return Err(refusal);
     }
-    list.copy_from_slice(&ruled::classes(frame));
+    classes.copy_from_slice(&ruled::classes(frame));
+    fits.copy_from_slice(&fits::fits(frame));
     Ok(())
 }
 

@@ -1,6 +1,7 @@
 // Runs both builds on generated frames, side by side, and counts where they part; and holds
-// document 01's words against the ruled build.
+// the documents' words against the ruled build.
 
+use crate::calls::fits;
 use crate::demand::fates;
 use crate::generate::{damage::damage, silence::draw_rule, size, KINDS};
 use crate::judge::{judge, Refusal};
@@ -68,9 +69,17 @@ pub struct Sides {
     pub plain: fn(&Frame) -> Stages,
     pub ruled: fn(&Frame) -> Stages,
     pub words: fn(&Frame) -> Stages,
+    /// The words on fits, which only the classes' call has.
+    pub fits: fn(&Frame) -> Vec<f32>,
 }
 
-pub const SIDES: Sides = Sides { judge, plain: plain::run, ruled: ruled::run, words: words::run };
+pub const SIDES: Sides = Sides {
+    judge,
+    plain: plain::run,
+    ruled: ruled::run,
+    words: words::run,
+    fits: |frame| words::fits(frame, &words::axes(frame)),
+};
 
 /// The words are run only on frames of at most this many quads: they take their time.
 const MOST_WORDED: usize = 500;
@@ -125,16 +134,24 @@ fn by_rule_1(seed: u64, number: usize) -> (usize, Frame, Option<Refusal>) {
     (place, frame, Some(refusal))
 }
 
+/// What parts first of the words on a frame and the ruled build: a stage, or the fits.
+fn words_part(sides: &Sides, frame: &Frame, ruled: &Stages) -> Option<&'static str> {
+    let stage = first_difference(&(sides.words)(frame), ruled).map(|stage| STAGES[stage]);
+    let fits = [(sides.fits)(frame), fits(frame)].map(|fits| fits.into_iter().map(f32::to_bits));
+    let [by_words, by_ruled] = fits;
+    stage.or_else(|| (!by_words.eq(by_ruled)).then_some("fits"))
+}
+
 fn difference(
     number: usize,
     kind: &'static str,
-    stage: usize,
+    stage: &'static str,
     letter: bool,
     frame: &Frame,
 ) -> Difference {
     let text = text::fits(frame).then(|| text::write(frame));
     let half_edges = frame.half_edges();
-    Difference { number, kind, stage: STAGES[stage], letter, half_edges, text }
+    Difference { number, kind, stage, letter, half_edges, text }
 }
 
 impl Row {
@@ -170,10 +187,10 @@ impl Table {
         }
     }
 
-    /// Holds document 01's words, as one side has them, against the ruled build.
+    /// Holds the documents' words, as the sides have them, against the ruled build.
     fn add_words(
         &mut self,
-        words: fn(&Frame) -> Stages,
+        sides: &Sides,
         number: usize,
         kind: &'static str,
         frame: &Frame,
@@ -186,7 +203,7 @@ impl Table {
         for fate in fates(&ruled.scale, frame.params.least_quads, frame.params.least_corners) {
             self.fates[fate.place()] += 1;
         }
-        let Some(stage) = first_difference(&words(frame), ruled) else {
+        let Some(stage) = words_part(sides, frame, ruled) else {
             return;
         };
         self.worded_differ += 1;
@@ -222,11 +239,11 @@ impl Table {
         if let Some(stage) = first_difference(&by_plain, &by_ruled) {
             row.count_difference(scope);
             self.first[stage] += 1;
-            let found = difference(number, kind, stage, scope.letter, &frame);
+            let found = difference(number, kind, STAGES[stage], scope.letter, &frame);
             let answers = by_plain.components != by_ruled.components;
             self.keep(found, scope.narrow, answers);
         }
-        self.add_words(sides.words, number, kind, &frame, &by_ruled);
+        self.add_words(sides, number, kind, &frame, &by_ruled);
         self.add_rule(&frame, &by_ruled, sides.ruled);
     }
 

@@ -31,6 +31,19 @@ impl<const COUNTS: usize, const LISTS: usize> Told<COUNTS, LISTS> {
     }
 }
 
+impl Told<0, 2> {
+    /// What a classes call tells and leaves that is lent a class list and fits, these by their bits.
+    pub fn by_classes(
+        classes: &[u32],
+        fits: &[f32],
+        call: impl FnOnce(&mut [u32], &mut [f32]) -> Result<(), Refusal>,
+    ) -> Self {
+        let (mut classes, mut fits) = (classes.to_vec(), fits.to_vec());
+        let result = call(&mut classes, &mut fits).map(|()| []);
+        Told { result, lists: [classes, fits.iter().map(|fit| fit.to_bits()).collect()] }
+    }
+}
+
 fn first_word(list: usize, a: &[u32], b: &[u32]) -> String {
     let equal = a.iter().zip(b).take_while(|(a, b)| a == b).count();
     format!("list {list}, word {equal}: {:?} and {:?}", a.get(equal), b.get(equal))

@@ -3,7 +3,8 @@
 use frame::{Frame, NONE};
 use oracle::calls::{axis_cache, classes, filters, quads};
 use oracle::judge::Refusal;
-use rules::HALF_PI;
+use oracle::told::Told;
+use rules::{HALF_PI, PI};
 
 /// Two triangles over a square of side 10, axes along its sides.
 fn square() -> Frame {
@@ -16,10 +17,17 @@ fn square() -> Frame {
     frame
 }
 
+/// The classes and the fits, these by their bits.
+fn told_of(frame: &Frame) -> [Vec<u32>; 2] {
+    let (list, lent) = (vec![9; frame.half_edges()], vec![9.0; frame.half_edges()]);
+    let told = Told::by_classes(&list, &lent, |list, lent| classes(frame, list, lent));
+    assert_eq!(told.result, Ok([]));
+    told.lists
+}
+
 fn classes_of(frame: &Frame) -> Vec<u32> {
-    let mut list = vec![9; frame.half_edges()];
-    assert_eq!(classes(frame, &mut list), Ok(()));
-    list
+    let [classes, _] = told_of(frame);
+    classes
 }
 
 const QUAD: [u32; 6] = [1, 1, 2, 2, 1, 1];
@@ -77,13 +85,50 @@ fn the_rule_of_spreads() {
     assert_eq!(informative(&frame), Ok([false; 2]));
     for rule in [0, 3, u32::MAX] {
         frame.params.spread_rule = rule;
-        let mut list = [7; 6];
-        assert_eq!((classes(&frame, &mut list), list), (refused(18, 0), [7; 6]));
+        let (mut list, mut fits) = ([7; 6], [7.5; 6]);
+        assert_eq!(classes(&frame, &mut list, &mut fits), refused(18, 0));
+        assert_eq!((list, fits), ([7; 6], [7.5; 6]));
         assert_eq!(informative(&frame), refused(18, 0));
     }
     frame.params.spread_limit = f32::NAN;
     assert_eq!(informative(&frame), refused(3, 4));
-    assert_eq!(classes(&frame, &mut [7; 6]), refused(3, 4));
+    assert_eq!(classes(&frame, &mut [7; 6], &mut [7.5; 6]), refused(3, 4));
+}
+
+const NO_FIT: u32 = 0xBF80_0000;
+const MINUS_0: u32 = 0x8000_0000;
+
+/// The last side runs against its axis, and has -0 at both ends.
+#[test]
+fn fits_of_a_square() {
+    let mut frame = square();
+    let fits_from = |first: u32| vec![first, 0, NO_FIT, NO_FIT, 0, MINUS_0];
+    assert_eq!(told_of(&frame), [QUAD.to_vec(), fits_from(0)], "the diagonal has none");
+    let [eighth, sixteenth] = [0.125f32, 0.0625].map(f32::to_bits);
+    (frame.angles[0], frame.angles[2]) = (-0.125, -0.0625);
+    assert_eq!(told_of(&frame)[1], fits_from(eighth), "greater at the start");
+    frame.angles.swap(0, 2);
+    assert_eq!(told_of(&frame)[1], fits_from(eighth), "greater at the end");
+    frame.params.tolerance = 0.125;
+    assert_eq!(told_of(&frame), [vec![0, 1, 0, 2, 1, 1], fits_from(NO_FIT)], "at the tolerance");
+    frame.angles[2] = 0.0625;
+    assert_eq!(told_of(&frame)[1], fits_from(sixteenth), "equal ones");
+}
+
+/// Of 0 and -0 neither is greater, and the start's bits count.
+#[test]
+fn fits_of_both_zeros() {
+    let mut frame = square();
+    for (start, end, bits) in [(0.0, PI, 0), (PI, 0.0, MINUS_0), (PI, PI, MINUS_0)] {
+        (frame.angles[0], frame.angles[2]) = (start, end);
+        assert_eq!(told_of(&frame)[1][0], bits);
+    }
+    frame.angles[..2].copy_from_slice(&[0.0, PI]);
+    assert_eq!(told_of(&frame)[1][0], 0, "slot 0 on equal distance");
+    frame.angles[..2].copy_from_slice(&[PI, 0.0]);
+    assert_eq!(told_of(&frame)[1][0], MINUS_0, "slot 0 on equal distance");
+    frame.angles[..2].copy_from_slice(&[-0.125, HALF_PI]);
+    assert_eq!(told_of(&frame)[1][0], 0.125f32.to_bits());
 }
 
 #[test]
@@ -106,9 +151,12 @@ fn room() {
 #[test]
 fn a_list_that_does_not_pair() {
     let frame = square();
-    let mut short = [7; 5];
-    assert_eq!(classes(&frame, &mut short), refused(1, 0));
-    assert_eq!(short, [7; 5]);
+    for [classes_lent, fits_lent] in [[5, 6], [7, 6], [6, 5], [6, 7], [5, 5], [6, 0]] {
+        let (list, lent) = (vec![7; classes_lent], vec![7.5; fits_lent]);
+        let told = Told::by_classes(&list, &lent, |list, lent| classes(&frame, list, lent));
+        assert_eq!(told.result, refused(1, 0));
+        assert_eq!(told.lists, [list, vec![7.5f32.to_bits(); fits_lent]]);
+    }
     assert_eq!(quads(&frame, &QUAD[..5], &mut []), refused(1, 0));
 }
 
@@ -118,7 +166,7 @@ fn corners_before_classes() {
     assert_eq!(quads(&frame, &[1, 3, 1, 1, 9, 1], &mut []), refused(5, 1));
     frame.triangles[5] = 4;
     assert_eq!(quads(&frame, &[1, 3, 1, 1, 9, 1], &mut []), refused(5, 5));
-    assert_eq!(classes(&frame, &mut [3; 6]), refused(5, 5));
+    assert_eq!(classes(&frame, &mut [3; 6], &mut [0.5; 6]), refused(5, 5));
 }
 
 #[test]

@@ -38,6 +38,7 @@ fn a_wrong_side_is_told() {
         Sides { judge: other_place, ..SIDES },
         Sides { judge: nothing_beside, ..SIDES },
         Sides { plain: |frame| spoiled(plain::run(frame)), ..SIDES },
+        Sides { fits: |frame| vec![-1.0; frame.half_edges()], ..SIDES },
         Sides { ruled: |frame| spoiled(ruled::run(frame)), ..SIDES },
         Sides { words: |frame| spoiled(words::run(frame)), ..SIDES },
     ];

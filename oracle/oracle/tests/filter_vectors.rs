@@ -6,8 +6,8 @@ mod common {
     pub mod over;
 }
 
-use common::cases::{either_side, parts, sound};
-use common::files::read_back;
+use common::cases::{either_side, sound};
+use common::files::{parts, read_back};
 use common::over::over;
 use oracle::judge::Refusal;
 use oracle::vectors::filters::{filter_cases, write_filters, Case, Summary};

@@ -7,8 +7,8 @@ mod common {
     pub mod rules;
 }
 
-use common::cases::{either_side, parts, sound};
-use common::files::read_back;
+use common::cases::{either_side, sound};
+use common::files::{parts, read_back};
 use common::labelled::{as_wanted, words_of};
 use common::rules::{check_words, told_apart};
 use oracle::judge::Refusal;

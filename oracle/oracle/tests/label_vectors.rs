@@ -8,8 +8,8 @@ mod common {
     pub mod over;
 }
 
-use common::cases::{either_side, parts, sound};
-use common::files::read_back;
+use common::cases::{either_side, sound};
+use common::files::{parts, read_back};
 use common::labelled::{as_wanted, words_of};
 use common::over::over;
 use oracle::demand::{components, fates};

@@ -5,10 +5,11 @@ mod common {
     pub mod rules;
 }
 
-use common::files::read_back;
+use common::files::{parts, read_back};
 use common::rules::{check_words, told_apart};
 use oracle::calls::axis_cache;
 use oracle::told::Told;
+use oracle::vectors::stages::fits::{fit_cases, FitSummary, Fitted};
 use oracle::vectors::stages::{rule_cases, stage_cases, write_stages, Answer, Case, Kind, Summary};
 use oracle::vectors::{Summed, Vector};
 use oracle::words;
@@ -39,6 +40,15 @@ fn every_row_by_a_rule() {
     assert_eq!(classes.rows(), [1, 2, 3, 4, 5, 6, 18]);
     assert_eq!(quads.cases, 0);
     assert!(axis.refused[&18] >= 12 && classes.refused[&18] >= 12);
+}
+
+#[test]
+fn what_the_cases_with_fits_hold() {
+    let summary = FitSummary::of(&fit_cases());
+    assert_eq!(summary.counts.rows(), [1, 2, 3, 4, 5, 6, 18]);
+    assert!(summary.counts.cases >= 350 && summary.longest > 24_576);
+    assert_eq!(summary.sides.len(), 12, "all kinds of sides");
+    assert!(summary.sides.values().all(|&count| count >= 10));
 }
 
 #[test]
@@ -97,6 +107,22 @@ fn words_beside_the_ruled_build() {
     all_cases().iter().for_each(as_the_words_say);
 }
 
+/// A refusal leaves both lists; what is accepted is written as the words say.
+#[test]
+fn words_beside_the_fits() {
+    for Fitted { case, fits } in fit_cases() {
+        let told = Fitted { case: case.clone(), fits: fits.clone() }.answer();
+        let (classes, fits) = match told.result {
+            Err(_) => (case.classes, fits),
+            Ok([]) => {
+                let axes = words::axes(&case.frame);
+                (words::classes(&case.frame, &axes), words::fits(&case.frame, &axes))
+            }
+        };
+        assert_eq!(told.lists, [classes, fits.iter().map(|fit| fit.to_bits()).collect()]);
+    }
+}
+
 /// Twins of an accepted case whose classes differ.
 fn twins_differ(case: &Case) -> bool {
     let twins = case.frame.twins.iter().enumerate();
@@ -119,11 +145,31 @@ fn what_the_quads_cases_hold() {
     assert!(differ > 50 && full > 10 && surplus > 200 && none > 50);
 }
 
+/// A line says its case again: the kind, the rule and two numbers, then the lists, which hold no
+/// NaN among the fits.
+fn check_fitted(line: &str, fitted: &Fitted) {
+    let frame = &fitted.case.frame;
+    let bits = |list: &[f32]| list.iter().map(|x| x.to_bits()).collect::<Vec<_>>();
+    let ([kind, rule, tolerance, limit], lists) = parts::<4, 8>(line);
+    assert_eq!([kind, rule], [10, frame.params.spread_rule]);
+    let numbers = [frame.params.tolerance, frame.params.spread_limit];
+    assert_eq!([tolerance, limit], numbers.map(f32::to_bits));
+    let [x, y, angles, marks, spreads, triangles, classes, fits] = lists;
+    assert_eq!([x, y], [bits(&frame.x), bits(&frame.y)]);
+    assert_eq!((angles, marks), (bits(&frame.angles), frame.marks.clone()));
+    assert_eq!((spreads, triangles), (bits(&frame.spreads), frame.triangles.clone()));
+    assert_eq!((classes, fits), (fitted.case.classes.clone(), bits(&fitted.fits)));
+    assert!(fitted.fits.iter().all(|fit| !fit.is_nan() && ![0.0, -1.0].contains(fit)));
+}
+
 #[test]
 fn files() {
     let [axis, classes, quads] = Summary::of(&all_cases()).counts.map(|counts| counts.cases);
     let (lines, answer_lines) = read_back("stage", write_stages);
-    assert_eq!(lines.len(), axis + classes + quads);
-    assert_eq!(answer_lines, axis + 2 * (classes + quads));
-    check_words(&lines[stage_cases().len()..], &rule_cases(), |word| word + 6);
+    let fitted = fit_cases();
+    let (before, last) = lines.split_at(axis + classes + quads);
+    assert_eq!(last.len(), fitted.len());
+    assert_eq!(answer_lines, axis + 2 * (classes + quads) + 3 * fitted.len());
+    check_words(&before[stage_cases().len()..], &rule_cases(), |word| word + 6);
+    last.iter().zip(&fitted).for_each(|(line, fitted)| check_fitted(line, fitted));
 }

@@ -2,6 +2,7 @@
 
 include!(concat!(env!("OUT_DIR"), "/tree.rs"));
 
+pub use topological::classify::matches::distances;
 pub use topological::driver::{axes, classes, filter, label, quads, run, Filtering};
 
 /// Gives a float the call that the build script writes where the original asks for an angle.

@@ -1,4 +1,4 @@
--- The call's answer, told, and the class list as the call leaves it.
+-- The call's answer, told, and the lists of classes and of fits as the call leaves them.
 use mathlib.Core.Path.{ap}
 use Rattle.abi.specs.Answers.{classesTold}
 use borrow.Author.Needs.{needs}
@@ -17,8 +17,11 @@ tell-classified-requires c κs = search needs
 same-length : tie.Need-same-length
 same-length c = search needs
 
+same-length-2 : tie.Need-same-length-2
+same-length-2 c = search needs
+
 returns : tie.Need-returns
-returns c = rw (c .tell-classified .ensures) (ap classesTold (rw (c .before .before .before .before .before .edge-params .ensures) at (c .before .before .before .classify-all-edges .ensures)))
+returns c = rw (c .tell-classified .ensures) (ap classesTold (rw (c .before .before .before .before .before .before .before .before .edge-params .ensures) at (c .before .before .before .before .before .classify-all-edges .ensures)))
 
 pub ngeunsadok-classify-all-edges-spec : {M : Type 1} → statement M
 ngeunsadok-classify-all-edges-spec =
@@ -28,4 +31,5 @@ ngeunsadok-classify-all-edges-spec =
     classify-all-edges-requires
     tell-classified-requires
     same-length
+    same-length-2
     returns)

@@ -23,7 +23,7 @@ pub struct Filled {
 }
 
 // The lesser of two.
-fn least(a: usize, b: usize) -> usize
+pub fn least(a: usize, b: usize) -> usize
     ensures { λ r. ⌜ (r ≡ leastOf a b) × (r ≤ a) × (r ≤ b) ⌝ }
 {
     if a < b { a } else { b }

@@ -61,7 +61,7 @@ fn print_notes(table: &Table) {
     println!("frames whose components part: {}", table.answers);
     println!("refusals not as the damage called for: {}", table.wrong_refusals);
     println!(
-        "document 01's words beside the ruled build: {} frames, {} differ",
+        "the documents' words beside the ruled build: {} frames, {} differ",
         table.worded, table.worded_differ
     );
     print_first("words", &table.worded_first);

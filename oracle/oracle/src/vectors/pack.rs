@@ -39,7 +39,7 @@ fn files_of<C: Vector>(kind: &str, cases: &[C]) -> Vec<File> {
 }
 
 /// The files of all cases, the kinds in the order in which they first come.
-fn pack<C: Vector>(cases: &[C]) -> Vec<File> {
+pub fn pack<C: Vector>(cases: &[C]) -> Vec<File> {
     let mut kinds: Vec<&str> = Vec::new();
     for case in cases {
         if !kinds.contains(&case.kind()) {
@@ -92,15 +92,23 @@ impl<S: fmt::Display> fmt::Display for WithRules<S> {
     }
 }
 
+/// The files of all cases, those by a spread rule behind the others, and what they hold.
+pub fn with_rules<C: Spreads, S: Summed<C>>(
+    cases: &[C],
+    by_rule: &[ByRule<C>],
+) -> (Vec<File>, WithRules<S>) {
+    let files = pack(cases).into_iter().chain(pack(by_rule)).collect();
+    let inner: Vec<C> = by_rule.iter().map(|case| case.0.clone()).collect();
+    (files, WithRules { without: S::of(cases), by_rule: S::of(&inner) })
+}
+
 /// Writes all cases into a folder, those by a spread rule behind the others.
 pub fn write_with_rules<C: Spreads, S: Summed<C>>(
     folder: &Path,
     cases: &[C],
     by_rule: &[ByRule<C>],
 ) -> io::Result<Written<WithRules<S>>> {
-    let files: Vec<File> = pack(cases).into_iter().chain(pack(by_rule)).collect();
-    let inner: Vec<C> = by_rule.iter().map(|case| case.0.clone()).collect();
-    let summary = WithRules { without: S::of(cases), by_rule: S::of(&inner) };
+    let (files, summary) = with_rules(cases, by_rule);
     Ok(Written { files: write(folder, &files)?, summary })
 }
 

@@ -1,4 +1,4 @@
-// Document 01's words on edge classes.
+// Document 01's words on edge classes, and document 02's on how well they fit.
 
 use frame::{AxisPair, Frame};
 
@@ -6,8 +6,11 @@ const SPURIOUS: u32 = 0;
 const GRID: u32 = 1;
 const DIAGONAL: u32 = 2;
 
+/// A matched axis: its slot, and its distance.
+pub type Match = (usize, f32);
+
 /// The nearest informative axis, slot 0 on equal distance; a missing distance is skipped.
-fn nearest(theta: f32, axes: &AxisPair) -> Option<(usize, f32)> {
+fn nearest(theta: f32, axes: &AxisPair) -> Option<Match> {
     let at = |slot: usize| {
         let distance = rules::distance_or_none(theta, axes.angles[slot])?;
         axes.informative[slot].then_some((slot, distance))
@@ -18,23 +21,29 @@ fn nearest(theta: f32, axes: &AxisPair) -> Option<(usize, f32)> {
     }
 }
 
-/// The slots matched at both ends, where the half-edge is Grid.
-fn grid_slots(frame: &Frame, axes: &[AxisPair], e: usize) -> Option<[usize; 2]> {
+/// The match at the start and at the end of a half-edge, whatever the tolerance.
+pub fn matches(frame: &Frame, axes: &[AxisPair], e: usize) -> [Option<Match>; 2] {
     let (a, b) = frame.ends(e);
     let (a, b) = (a as usize, b as usize);
     let theta = rules::angle(frame.x[b] - frame.x[a], frame.y[b] - frame.y[a]);
-    let (start, end) = (nearest(theta, &axes[a])?, nearest(theta, &axes[b])?);
+    [nearest(theta, &axes[a]), nearest(theta, &axes[b])]
+}
+
+/// The matches at both ends, where the half-edge is Grid.
+fn grid_matches(frame: &Frame, axes: &[AxisPair], e: usize) -> Option<[Match; 2]> {
+    let [start, end] = matches(frame, axes, e);
+    let (start, end) = (start?, end?);
     let below = |d: f32| d < frame.params.tolerance;
-    (below(start.1) && below(end.1)).then_some([start.0, end.0])
+    (below(start.1) && below(end.1)).then_some([start, end])
 }
 
 /// The side that becomes Diagonal: the third, where exactly two are Grid and their slots
 /// differ at their common corner, which is the end of one and the start of the next.
-fn diagonal(slots: &[Option<[usize; 2]>]) -> Option<usize> {
+fn diagonal(sides: &[Option<[Match; 2]>]) -> Option<usize> {
     (0..3).find(|&k| {
-        let (after, last) = (slots[(k + 1) % 3], slots[(k + 2) % 3]);
-        match (slots[k], after, last) {
-            (None, Some(after), Some(last)) => after[1] != last[0],
+        let (after, last) = (sides[(k + 1) % 3], sides[(k + 2) % 3]);
+        match (sides[k], after, last) {
+            (None, Some(after), Some(last)) => after[1].0 != last[0].0,
             _ => false,
         }
     })
@@ -42,13 +51,24 @@ fn diagonal(slots: &[Option<[usize; 2]>]) -> Option<usize> {
 
 /// The class of every half-edge.
 pub fn classes(frame: &Frame, axes: &[AxisPair]) -> Vec<u32> {
-    let slots: Vec<_> = (0..frame.half_edges()).map(|e| grid_slots(frame, axes, e)).collect();
+    let sides: Vec<_> = (0..frame.half_edges()).map(|e| grid_matches(frame, axes, e)).collect();
     let mut classes: Vec<u32> =
-        slots.iter().map(|s| if s.is_some() { GRID } else { SPURIOUS }).collect();
+        sides.iter().map(|s| if s.is_some() { GRID } else { SPURIOUS }).collect();
     for t in 0..frame.half_edges() / 3 {
-        if let Some(k) = diagonal(&slots[3 * t..3 * t + 3]) {
+        if let Some(k) = diagonal(&sides[3 * t..3 * t + 3]) {
             classes[3 * t + k] = DIAGONAL;
         }
     }
     classes
+}
+
+/// The fit of every half-edge, by document 02: of a Grid one the greater of its two distances, of
+/// equal ones the start's; of a Diagonal and of a Spurious one -1.
+pub fn fits(frame: &Frame, axes: &[AxisPair]) -> Vec<f32> {
+    let fit = |(e, class)| match (class, matches(frame, axes, e)) {
+        (GRID, [Some((_, start)), Some((_, end))]) if start < end => end,
+        (GRID, [Some((_, start)), _]) => start,
+        _ => -1.0,
+    };
+    classes(frame, axes).into_iter().enumerate().map(fit).collect()
 }

@@ -1,12 +1,12 @@
-// Document 01's words on the stages, with document 02's on missing spreads, taken one by one and
-// without regard to speed, so that they can be held against the original. Nothing here looks at the
-// original's code.
+// Document 01's words on the stages, with document 02's on missing spreads and on fits, taken one by
+// one and without regard to speed, so that they can be held against the original. Nothing here looks
+// at the original's code.
 
 mod classes;
 pub mod filters;
 mod quads;
 
-pub use classes::classes;
+pub use classes::{classes, fits, matches, Match};
 pub use quads::quads;
 
 use crate::demand;

@@ -18,23 +18,3 @@ pub fn either_side<C: Vector>(cases: &[C], row: u32, picks: impl Fn(&C) -> bool)
 pub fn sound(case: &impl Vector) -> bool {
     case.refusal().is_none_or(|refusal| matches!(refusal.row, 9 | 10))
 }
-
-/// One list of a case's words: length, given, fill, words.
-fn take_list(words: &mut &[u32]) -> Vec<u32> {
-    let (length, given, fill) = (words[0] as usize, words[1] as usize, words[2]);
-    let mut list = words[3..3 + given].to_vec();
-    list.resize(length, fill);
-    *words = &words[3 + given..];
-    list
-}
-
-/// The numbers and the lists that a line of a data file says.
-pub fn parts<const NUMBERS: usize, const LISTS: usize>(
-    line: &str,
-) -> ([u32; NUMBERS], [Vec<u32>; LISTS]) {
-    let words: Vec<u32> = line.split(' ').map(|w| u32::from_str_radix(w, 16).unwrap()).collect();
-    let (numbers, mut rest) = words.split_first_chunk().unwrap();
-    let lists = std::array::from_fn(|_| take_list(&mut rest));
-    assert!(rest.is_empty());
-    (*numbers, lists)
-}

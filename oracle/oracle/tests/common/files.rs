@@ -35,3 +35,23 @@ pub fn read_back<W>(
     fs::remove_dir_all(folder).unwrap();
     (lines, answers.lines().count() - headings.len())
 }
+
+/// One list of a case's words: length, given, fill, words.
+fn take_list(words: &mut &[u32]) -> Vec<u32> {
+    let (length, given, fill) = (words[0] as usize, words[1] as usize, words[2]);
+    let mut list = words[3..3 + given].to_vec();
+    list.resize(length, fill);
+    *words = &words[3 + given..];
+    list
+}
+
+/// The numbers and the lists that a line of a data file says.
+pub fn parts<const NUMBERS: usize, const LISTS: usize>(
+    line: &str,
+) -> ([u32; NUMBERS], [Vec<u32>; LISTS]) {
+    let words: Vec<u32> = line.split(' ').map(|w| u32::from_str_radix(w, 16).unwrap()).collect();
+    let (numbers, mut rest) = words.split_first_chunk().unwrap();
+    let lists = std::array::from_fn(|_| take_list(&mut rest));
+    assert!(rest.is_empty());
+    (*numbers, lists)
+}

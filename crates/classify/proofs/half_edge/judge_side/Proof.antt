@@ -34,9 +34,12 @@ returns-2 : tie.Need-returns-2
 unfolding judgedOf
 returns-2 c = rw (c .before .before .before .start .given .1, c .enum-told2 .given .1, missing-end)
 
+greater-requires : tie.Need-greater-requires
+greater-requires c κs = search needs
+
 returns-3 : tie.Need-returns-3
 unfolding judgedOf judgedBy isBelow
-returns-3 c = rw (c .before .before .before .before .before .before .start .given .1, c .before .before .before .end .given .1, c .before .if1 .taken, c .if2 .taken)
+returns-3 c = rw (c .before .before .before .before .before .before .before .start .given .1, c .before .before .before .before .end .given .1, c .before .before .if1 .taken, c .before .if2 .taken, c .greater .ensures)
 
 returns-4 : tie.Need-returns-4
 unfolding judgedOf judgedBy isBelow
@@ -56,6 +59,7 @@ judge-side-spec =
     enum-known-end
     enum-told-2
     returns-2
+    greater-requires
     returns-3
     returns-4
     returns-5)

@@ -52,8 +52,10 @@ pub fn answer(case: &Case) -> Answer {
     match case.kind {
         Kind::Axis => Answer::Axis(calls::axis_cache(&case.frame)),
         Kind::Classes => {
-            let call = |list: &mut [u32]| calls::classes(&case.frame, list).map(|()| []);
-            Answer::Classes(Told::by([case.classes.clone()], |[list]| call(list)))
+            let mut fits = vec![0.0; case.frame.half_edges()];
+            Answer::Classes(Told::by([case.classes.clone()], |[list]| {
+                calls::classes(&case.frame, list, &mut fits).map(|()| [])
+            }))
         }
         Kind::Quads => {
             let call = |list: &mut [u32]| calls::quads(&case.frame, &case.classes, list);

@@ -99,7 +99,7 @@ fn numbers(cases: &mut Vec<ByRule<Case>>) {
 }
 
 /// Faults of rows beside those that `order` has, each with its row.
-const OTHERS: [(u32, Fault<Case>); 4] = [
+pub const OTHERS: [(u32, Fault<Case>); 4] = [
     (1, |case| case.classes.truncate(11)),
     (1, |case| case.frame.triangles.truncate(11)),
     (2, |case| {

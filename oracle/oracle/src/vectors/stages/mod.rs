@@ -9,6 +9,7 @@ mod class_lists;
 mod class_numbers;
 mod class_rules;
 mod drawn;
+pub mod fits;
 mod lengths;
 mod order;
 mod pairs;
@@ -23,11 +24,12 @@ pub use answer::Answer;
 pub use case::{Case, Kind};
 pub use summary::Summary;
 
-use super::pack::{write_with_rules, WithRules, Written};
+use super::pack::{pack, with_rules, write, WithRules, Written};
 use super::vector::gathered;
-use super::ByRule;
-use std::io;
+use super::{ByRule, Summed};
+use fits::{fit_cases, FitSummary};
 use std::path::Path;
+use std::{fmt, io};
 
 /// All cases: those chosen by hand, the drawn ones, and the rows of twins told apart.
 pub fn stage_cases() -> Vec<Case> {
@@ -52,7 +54,23 @@ pub fn rule_cases() -> Vec<ByRule<Case>> {
     gathered(&[axis_rules::add, class_rules::add])
 }
 
-/// Writes everything into a folder and says what was written.
-pub fn write_stages(folder: &Path) -> io::Result<Written<WithRules<Summary>>> {
-    write_with_rules(folder, &stage_cases(), &rule_cases())
+/// What the cases without fits hold, and what those with fits do.
+pub struct WithFits {
+    pub without: WithRules<Summary>,
+    pub fits: FitSummary,
+}
+
+impl fmt::Display for WithFits {
+    fn fmt(&self, f: &mut fmt::Formatter<'_>) -> fmt::Result {
+        write!(f, "{}{}", self.without, self.fits)
+    }
+}
+
+/// Writes everything into a folder, the cases with fits last, and says what was written.
+pub fn write_stages(folder: &Path) -> io::Result<Written<WithFits>> {
+    let (mut files, without) = with_rules(&stage_cases(), &rule_cases());
+    let fitted = fit_cases();
+    files.extend(pack(&fitted));
+    let summary = WithFits { without, fits: FitSummary::of(&fitted) };
+    Ok(Written { files: write(folder, &files)?, summary })
 }
