@@ -38,6 +38,9 @@
  *               e - 2 where e leaves 2 on division by 3; half-edge e belongs to triangle e / 3
  *   twins       one half-edge for each half-edge: the one that runs the other way, or NGEUNSADOK_NO_TWIN
  *   classes     one class for each half-edge: 0 Spurious, 1 Grid, 2 Diagonal
+ *   fits        one float for each half-edge: where it is Grid, the greater of its distances, in radians, from the nearest axis that
+ *               counts at either end, the start's where neither is greater (of -0 and 0 neither is); else -1. It tells how near a Grid
+ *               side came to the tolerance: the side is Grid by every tolerance above its fit and by no other
  *   quads       four corners a quad, in order round it
  *   components  three words a component: the entries before its own, how many are its own, its holes
  *   entries     three words an entry: u, v, corner; a component's stand together, in order of u, then v
@@ -52,8 +55,8 @@
  * 0 too. In every other answer, success among them, beside is 0. Rows 7, 11 and 12 are tried between 6 and 8 as one: the first half-edge
  * with a wrong twin is told, by the first of the three that applies to it.
  *
- *   1  paired lists differ in length (x, y, axes at two slots a corner; triangles, twins, classes), or a list of triangles or quads is
- *      not whole; place 0
+ *   1  paired lists differ in length (x, y, axes at two slots a corner; triangles, twins, classes, fits), or a list of triangles or quads
+ *      is not whole; place 0
  *   2  a count is over its limit: 4,096 corners, 24,576 half-edges, 4,096 quads; place 0
  *   3  a parameter is NaN; place: tolerance 0, ratio 1, least 2, greatest 3, spread limit 4
  *  18  the spread rule is neither 1 nor 2; place 0
@@ -245,12 +248,13 @@ ngeunsadok_counts ngeunsadok_label_frame(const float *x, size_t x_count, const f
                                          uint32_t leastquads, uint32_t leastcorners, uint32_t rule, uint32_t *work, size_t work_words,
                                          uint32_t *components, size_t component_words, uint32_t *entries, size_t entry_words);
 
-/* The class of every half-edge into classes, which has as many elements as triangles. tolerance, limit and rule are as for a whole frame.
- * Rows 1 to 3, 18 and 4 to 6. */
+/* The class of every half-edge into classes, and its fit into fits; both have as many elements as triangles. tolerance, limit and rule are
+ * as for a whole frame. Rows 1 to 3, 18 and 4 to 6. */
 ngeunsadok_verdict ngeunsadok_classify_all_edges(const float *x, size_t x_count, const float *y, size_t y_count, const float *angles,
                                                  size_t angle_count, const uint32_t *marks, size_t mark_count, const float *spreads,
                                                  size_t spread_count, const uint32_t *triangles, size_t triangle_words, float tolerance,
-                                                 float limit, uint32_t rule, uint32_t *classes, size_t class_count);
+                                                 float limit, uint32_t rule, uint32_t *classes, size_t class_count, float *fits,
+                                                 size_t fit_count);
 
 /* A quad for each pair of triangles that meet at the only diagonal of both; count is how many. There are at most half as many as
  * triangles. Rows 1, 2, 4 to 7, 11, 12 and 9. */

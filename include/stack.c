@@ -13,7 +13,7 @@
 
 /* A grid of 64 by 64 corners whose last row and column are joined to its first: 4,096 corners, 24,576 half-edges, 4,096 quads. */
 enum { SIDE = 64, CORNERS = SIDE * SIDE, HALF_EDGES = 6 * CORNERS, QUADS = CORNERS };
-static float x[CORNERS], y[CORNERS], angles[2 * CORNERS], spreads[2 * CORNERS];
+static float x[CORNERS], y[CORNERS], angles[2 * CORNERS], spreads[2 * CORNERS], fits[HALF_EDGES];
 static uint32_t marks[2 * CORNERS], triangles[HALF_EDGES], twins[HALF_EDGES], classes[HALF_EDGES], quads[4 * QUADS], kept[4 * QUADS];
 static uint32_t work[NGEUNSADOK_FRAME_WORK(HALF_EDGES, CORNERS)];
 static ngeunsadok_component components[QUADS];
@@ -30,7 +30,8 @@ static void cache(void) { refused = ngeunsadok_axis_cache(1, 1, 0.5f, 2, 0, 0, 1
 
 static void classify(void) {
     refused = ngeunsadok_classify_all_edges(x, CORNERS, y, CORNERS, angles, 2 * CORNERS, marks, 2 * CORNERS, spreads, 2 * CORNERS,
-                                            triangles, HALF_EDGES, 0.25f, 1, NGEUNSADOK_MISSING_INFORMATIVE, classes, HALF_EDGES)
+                                            triangles, HALF_EDGES, 0.25f, 1, NGEUNSADOK_MISSING_INFORMATIVE, classes, HALF_EDGES, fits,
+                                            HALF_EDGES)
                   .refused;
 }
 

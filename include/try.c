@@ -69,9 +69,11 @@ static const uint32_t triangles[6] = {0, 1, 2, 0, 2, 3}, twins[6] = {NONE, NONE,
 static const uint32_t marks[8] = {0, 0, 0, 0, 0, 0, 0, 0};
 #define UP 1.57079637f /* 3FC90FDB */
 static const float angles[8] = {0, UP, 0, UP, 0, UP, 0, UP}, spreads[8] = {0, 0, 0, 0, 0, 0, 0, 0};
+static const uint32_t sides[6] = {1, 1, 2, 2, 1, 1}; /* the classes of its half-edges */
 static const uint32_t square[6] = {0, 1, 2, 3, 77, 77}, placed[13] = {0, 0, 0, 0, 1, 3, 1, 0, 1, 1, 1, 2, 77};
 
-static uint32_t work[NGEUNSADOK_FRAME_WORK(6, 4)], components[4], entries[13];
+static uint32_t work[NGEUNSADOK_FRAME_WORK(6, 4)], components[4], entries[13], classes[7];
+static float fits[7];
 
 static void reset(void) {
     size_t i;
@@ -79,10 +81,20 @@ static void reset(void) {
     memset(work, 0xFF, sizeof work);
     for (i = 0; i < 4; i++) components[i] = 77;
     for (i = 0; i < 13; i++) entries[i] = 77;
+    for (i = 0; i < 7; i++) classes[i] = 77, fits[i] = 77;
 }
 
 static int untouched(void) {
     return components[0] == 77 && components[2] == 77 && entries[0] == 77 && entries[11] == 77;
+}
+
+/* So many elements of both lists of the classes' call, from this one on, are as they were. */
+static int unclassed(size_t from, size_t count) {
+    size_t i;
+
+    for (i = from; i < from + count; i++)
+        if (classes[i] != 77 || bits(fits[i]) != bits(77)) return 0;
+    return 1;
 }
 
 /* The whole frame with these twins, a workspace of so many words and an entry list of so many. */
@@ -121,13 +133,13 @@ static const struct {
 };
 
 static void twin_faults(void) {
-    const uint32_t classes[6] = {1, 1, 2, 2, 1, 1}, rest[6] = {77, 77, 77, 77, 77, 77};
+    const uint32_t rest[6] = {77, 77, 77, 77, 77, 77};
     size_t k;
 
     for (k = 0; k < sizeof faults / sizeof *faults; k++) {
         const uint32_t *const twin = faults[k].twins, refused = faults[k].refused, place = faults[k].place, beside = faults[k].beside;
         uint32_t quads[6] = {77, 77, 77, 77, 77, 77};
-        ngeunsadok_count count = ngeunsadok_merge_triangle_pairs(x, 4, y, 4, triangles, 6, twin, 6, classes, 6, quads, 6);
+        ngeunsadok_count count = ngeunsadok_merge_triangle_pairs(x, 4, y, 4, triangles, 6, twin, 6, sides, 6, quads, 6);
         ngeunsadok_counts counts = framed(twin, 160, 13);
 
         EXPECT(count.refused == refused && count.place == place && count.beside == beside && count.count == 0);
@@ -138,37 +150,89 @@ static void twin_faults(void) {
     }
 }
 
+/* The call of the classes on the square with these angles, by this tolerance, into lists of so many elements. */
+static ngeunsadok_verdict classed(const float *angle, float tolerance, size_t class_count, size_t fit_count) {
+    reset();
+    return ngeunsadok_classify_all_edges(x, 4, y, 4, angle, 8, marks, 8, spreads, 8, triangles, 6, tolerance, 1, KEEP, classes, class_count,
+                                         fits, fit_count);
+}
+
 static void stages(void) {
-    const uint32_t wanted[6] = {1, 1, 2, 2, 1, 1};
-    uint32_t classes[6] = {77, 77, 77, 77, 77, 77}, quads[6] = {77, 77, 77, 77, 77, 77};
-
+    uint32_t quads[6] = {77, 77, 77, 77, 77, 77};
     ngeunsadok_verdict verdict;
-    verdict = ngeunsadok_classify_all_edges(x, 4, y, 3, angles, 8, marks, 8, spreads, 8, triangles, 6, 0.25f, 1, KEEP, classes, 6);
-    EXPECT(verdict.refused == 1 && verdict.place == 0 && classes[0] == 77);
-    verdict = ngeunsadok_classify_all_edges(x, 4, y, 4, angles, 8, marks, 8, spreads, 8, triangles, 6, 0.25f, 1, KEEP, classes, 6);
-    EXPECT(verdict.refused == 0 && memcmp(classes, wanted, sizeof classes) == 0);
+    ngeunsadok_count count;
 
-    ngeunsadok_count count = ngeunsadok_merge_triangle_pairs(x, 4, y, 4, triangles, 6, twins, 6, classes, 6, quads, 3);
+    reset();
+    verdict = ngeunsadok_classify_all_edges(x, 4, y, 3, angles, 8, marks, 8, spreads, 8, triangles, 6, 0.25f, 1, KEEP, classes, 6, fits, 6);
+    EXPECT(verdict.refused == 1 && verdict.place == 0 && unclassed(0, 7));
+    verdict = classed(angles, 0.25f, 6, 6);
+    EXPECT(verdict.refused == 0 && verdict.place == 0 && memcmp(classes, sides, sizeof sides) == 0);
+
+    count = ngeunsadok_merge_triangle_pairs(x, 4, y, 4, triangles, 6, twins, 6, classes, 6, quads, 3);
     EXPECT(count.refused == 9 && count.place == 1 && count.beside == 0 && count.count == 0 && quads[0] == 77);
     count = ngeunsadok_merge_triangle_pairs(x, 4, y, 4, triangles, 6, twins, 6, classes, 6, quads, 6);
     EXPECT(count.refused == 0 && count.beside == 0 && count.count == 1 && memcmp(quads, square, sizeof quads) == 0);
 }
 
+/* Angles of the square's corners and a tolerance, with the classes and, by their bits, the fits. Half-edge 0 runs from corner 0 to 1 and 4
+ * from 2 to 3, both along slot 0; 1 from 1 to 2 and 5 from 3 to 0, both along slot 1. */
+#define HALF_TURN 3.14159274f /* 40490FDB */
+#define ALONG {0, UP, 0, UP, 0, UP, 0, UP}
+#define TURNED {0.125f, UP + 0.0625f, 0.03125f, UP, 0, UP, 0.1875f, UP}
+#define NO_FIT 0xBF800000
+#define MINUS_0 0x80000000
+static const struct {
+    float angles[8], tolerance;
+    uint32_t classes[6], fits[6];
+} fitted[] = {
+    /* half-edge 5 lies a half turn below its axes, a distance of -0 */
+    {ALONG, 0.25f, {1, 1, 2, 2, 1, 1}, {0, 0, NO_FIT, NO_FIT, 0, MINUS_0}},
+    /* half-edge 0 has the greater distance at its start, 4 and 5 have it at their ends */
+    {TURNED, 0.25f, {1, 1, 2, 2, 1, 1}, {0x3E000000, 0, NO_FIT, NO_FIT, 0x3E400000, 0x3D800000}},
+    /* half-edge 0's own fit as tolerance, and the next float above it */
+    {TURNED, 0.125f, {0, 1, 0, 0, 0, 1}, {NO_FIT, 0, NO_FIT, NO_FIT, NO_FIT, 0x3D800000}},
+    {TURNED, 0.125000015f, {1, 1, 2, 0, 0, 1}, {0x3E000000, 0, NO_FIT, NO_FIT, NO_FIT, 0x3D800000}},
+    /* half-edge 0 has a distance of -0 at its start, at its end, at both */
+    {{HALF_TURN, UP, 0, UP, 0, UP, 0, UP}, 0.25f, {1, 1, 2, 2, 1, 1}, {MINUS_0, 0, NO_FIT, NO_FIT, 0, MINUS_0}},
+    {{0, UP, HALF_TURN, UP, 0, UP, 0, UP}, 0.25f, {1, 1, 2, 2, 1, 1}, {0, 0, NO_FIT, NO_FIT, 0, MINUS_0}},
+    {{HALF_TURN, UP, HALF_TURN, UP, 0, UP, 0, UP}, 0.25f, {1, 1, 2, 2, 1, 1}, {MINUS_0, 0, NO_FIT, NO_FIT, 0, MINUS_0}},
+    /* above every distance, so that the diagonals are Grid too, and above none */
+    {ALONG, 2, {1, 1, 1, 1, 1, 1}, {0, 0, 0x3F490FDC, 0x3F490FDB, 0, MINUS_0}},
+    {ALONG, 0, {0, 0, 0, 0, 0, 0}, {NO_FIT, NO_FIT, NO_FIT, NO_FIT, NO_FIT, NO_FIT}},
+};
+
+static void fits_of_sides(void) {
+    const size_t lengths[6][2] = {{6, 5}, {6, 7}, {5, 6}, {7, 6}, {5, 5}, {6, 0}};
+    ngeunsadok_verdict verdict;
+    size_t k;
+
+    for (k = 0; k < sizeof fitted / sizeof *fitted; k++) {
+        verdict = classed(fitted[k].angles, fitted[k].tolerance, 6, 6);
+        EXPECT(verdict.refused == 0 && verdict.place == 0);
+        EXPECT(memcmp(classes, fitted[k].classes, sizeof fitted[k].classes) == 0);
+        EXPECT(memcmp(fits, fitted[k].fits, sizeof fitted[k].fits) == 0);
+        EXPECT(unclassed(6, 1));
+    }
+    for (k = 0; k < 6; k++) {
+        verdict = classed(angles, 0.25f, lengths[k][0], lengths[k][1]);
+        EXPECT(verdict.refused == NGEUNSADOK_LENGTHS && verdict.place == 0 && unclassed(0, 7));
+    }
+}
+
 /* The square with these marks and these y, by this tolerance and this rule: its classes, and its answer as a whole frame, whose workspace
  * has so many words. Both calls refuse alike, and then every list is as it was. */
-static ngeunsadok_counts ruled(const uint32_t *mark, const float *at, float tolerance, uint32_t rule, size_t words, uint32_t *classes) {
-    const uint32_t rest[6] = {77, 77, 77, 77, 77, 77};
+static ngeunsadok_counts ruled(const uint32_t *mark, const float *at, float tolerance, uint32_t rule, size_t words) {
     ngeunsadok_verdict verdict;
     ngeunsadok_counts counts;
 
     reset();
-    memcpy(classes, rest, sizeof rest);
-    verdict = ngeunsadok_classify_all_edges(x, 4, at, 4, angles, 8, mark, 8, spreads, 8, triangles, 6, tolerance, 1, rule, classes, 6);
+    verdict =
+        ngeunsadok_classify_all_edges(x, 4, at, 4, angles, 8, mark, 8, spreads, 8, triangles, 6, tolerance, 1, rule, classes, 6, fits, 6);
     counts = ngeunsadok_label_frame(x, 4, at, 4, angles, 8, mark, 8, spreads, 8, triangles, 6, twins, 6, tolerance, 1.5f, 0.5f, 2, 1, 1, 4,
                                     rule, work, words, components, 4, entries, 13);
     EXPECT(verdict.refused == counts.refused && verdict.place == counts.place && counts.beside == 0);
     if (counts.refused) {
-        EXPECT(memcmp(classes, rest, sizeof rest) == 0 && counts.components == 0 && counts.entries == 0);
+        EXPECT(unclassed(0, 7) && counts.components == 0 && counts.entries == 0);
         EXPECT(untouched() && work[0] == 0xFFFFFFFF && work[159] == 0xFFFFFFFF);
     }
     return counts;
@@ -177,28 +241,28 @@ static ngeunsadok_counts ruled(const uint32_t *mark, const float *at, float tole
 static void rules(void) {
     /* in the second list corner 0 has no spread in slot 0, along half-edge 0; in the third all corners have both */
     const uint32_t lists[3][8] = {{0, 0, 0, 0, 0, 0, 0, 0}, {0, 1, 1, 1, 1, 1, 1, 1}, {1, 1, 1, 1, 1, 1, 1, 1}};
-    const uint32_t kept[6] = {1, 1, 2, 2, 1, 1}, by_drop[3][6] = {{0, 0, 0, 0, 0, 0}, {0, 1, 0, 2, 1, 1}, {1, 1, 2, 2, 1, 1}};
+    const uint32_t by_drop[3][6] = {{0, 0, 0, 0, 0, 0}, {0, 1, 0, 2, 1, 1}, {1, 1, 2, 2, 1, 1}};
     const float far[4] = {0, 0, 10, 2000000}, nan = from_bits(0x7FC00000);
-    uint32_t classes[6];
     ngeunsadok_counts counts;
-    size_t k;
+    size_t k, e;
 
     for (k = 0; k < 3; k++) {
-        counts = ruled(lists[k], y, 0.25f, KEEP, 160, classes);
-        EXPECT(counts.refused == 0 && counts.components == 1 && counts.entries == 4 && memcmp(classes, kept, sizeof kept) == 0);
-        counts = ruled(lists[k], y, 0.25f, DROP, 160, classes);
-        EXPECT(counts.refused == 0 && memcmp(classes, by_drop[k], sizeof classes) == 0);
+        counts = ruled(lists[k], y, 0.25f, KEEP, 160);
+        EXPECT(counts.refused == 0 && counts.components == 1 && counts.entries == 4 && memcmp(classes, sides, sizeof sides) == 0);
+        counts = ruled(lists[k], y, 0.25f, DROP, 160);
+        EXPECT(counts.refused == 0 && memcmp(classes, by_drop[k], sizeof by_drop[k]) == 0);
+        for (e = 0; e < 6; e++) EXPECT(classes[e] == 1 ? fits[e] == 0 : bits(fits[e]) == NO_FIT);
         EXPECT(k == 2 ? counts.components == 1 && counts.entries == 4 : counts.components == 0 && counts.entries == 0);
     }
     for (k = 0; k < 3; k++) {
-        counts = ruled(lists[k], y, 0.25f, no_rules[k], 160, classes);
+        counts = ruled(lists[k], y, 0.25f, no_rules[k], 160);
         EXPECT(counts.refused == NGEUNSADOK_RULE && counts.place == 0);
         /* behind 3; before 4 and 8 */
-        counts = ruled(lists[k], far, nan, no_rules[k], 159, classes);
+        counts = ruled(lists[k], far, nan, no_rules[k], 159);
         EXPECT(counts.refused == NGEUNSADOK_PARAMETER && counts.place == 0);
-        counts = ruled(lists[k], far, 0.25f, no_rules[k], 159, classes);
+        counts = ruled(lists[k], far, 0.25f, no_rules[k], 159);
         EXPECT(counts.refused == NGEUNSADOK_RULE && counts.place == 0);
-        counts = ruled(lists[k], far, 0.25f, DROP, 159, classes);
+        counts = ruled(lists[k], far, 0.25f, DROP, 159);
         EXPECT(counts.refused == NGEUNSADOK_RANGE && counts.place == 3);
     }
 }
@@ -292,11 +356,13 @@ static void parameters(void) {
 static void nothing(void) {
     const ngeunsadok_frame none = {0, NULL, NULL, NULL, NULL, NULL, 0, NULL, NULL};
     const ngeunsadok_params params = NGEUNSADOK_DEFAULT_PARAMS;
+    ngeunsadok_verdict verdict;
     ngeunsadok_count count;
     ngeunsadok_counts counts = ngeunsadok_label(&none, &params, NULL, 0, NULL, 0, NULL, 0);
 
     EXPECT(counts.refused == 0 && counts.place == 0 && counts.components == 0 && counts.entries == 0);
-    EXPECT(ngeunsadok_classify_all_edges(NULL, 0, NULL, 0, NULL, 0, NULL, 0, NULL, 0, NULL, 0, 0.25f, 1, DROP, NULL, 0).refused == 0);
+    verdict = ngeunsadok_classify_all_edges(NULL, 0, NULL, 0, NULL, 0, NULL, 0, NULL, 0, NULL, 0, 0.25f, 1, DROP, NULL, 0, NULL, 0);
+    EXPECT(verdict.refused == 0 && verdict.place == 0);
     count = ngeunsadok_merge_triangle_pairs(NULL, 0, NULL, 0, NULL, 0, NULL, 0, NULL, 0, NULL, 0);
     EXPECT(count.refused == 0 && count.count == 0);
     count = ngeunsadok_filter_quads(NULL, 0, NULL, 0, NULL, 0, 1.5f, 0.5f, 2, NULL, 0, NULL, 0);
@@ -340,6 +406,7 @@ int main(void) {
     frame();
     twin_faults();
     stages();
+    fits_of_sides();
     rules();
     filters();
     labels();

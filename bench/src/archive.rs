@@ -34,8 +34,8 @@ pub fn angle(dx: f32, dy: f32) -> Result<f32, Refusal> {
     ngeunsadok::angle(dx, dy).map_err(by_row)
 }
 
-/// Writes the classes. The frame's twins are not read.
-pub fn classify_all_edges(frame: &Frame, classes: &mut [u32]) -> Result<(), Refusal> {
+/// Writes the classes and the fits. The frame's twins are not read.
+pub fn classify_all_edges(frame: &Frame, classes: &mut [u32], fits: &mut [f32]) -> Result<(), Refusal> {
     let params = &frame.params;
     let verdict = unsafe {
         raw::ngeunsadok_classify_all_edges(
@@ -56,6 +56,8 @@ pub fn classify_all_edges(frame: &Frame, classes: &mut [u32]) -> Result<(), Refu
             params.spread_rule,
             classes.as_mut_ptr(),
             classes.len(),
+            fits.as_mut_ptr(),
+            fits.len(),
         )
     };
     told(verdict.refused, verdict.place, 0, ())

@@ -3,7 +3,7 @@
 // and equality is owed by that one; by rule 2 it gets NaN for a missing spread.
 
 use crate::archive;
-use crate::stages::{Stages, OURS, RULED};
+use crate::stages::{Calls, Stages, OURS, RULED};
 use crate::tally::{Beside, Tally};
 use oracle::frames::{drawn, expected, Unchanged};
 use oracle::judge::{MOST_CORNERS, MOST_HALF_EDGES};
@@ -22,6 +22,7 @@ const FILTERS: [&str; 3] = ["first filter", "first two filters", "all filters"];
 struct Frames {
     frames: Beside<2>,
     classes: Beside<1>,
+    fits: Beside<1>,
     quads: Beside<1>,
     kept: [Beside<1>; 3],
     /// The stages beside those of a run of the whole by the ruled Rust.
@@ -48,7 +49,7 @@ impl Frames {
         let ours = Told::by(case.lent(), |[work, components, entries]| archive::label_frame(frame, [work, components, entries]));
         let expected = expected(case);
         self.frames.add(&ours, &expected.told, size, name);
-        let stages = self.add_stages(number, case);
+        let stages = self.add_stages(&OURS, number, case);
         if let Some(run) = &expected.between {
             self.run.add(stages.are_those_of(run), size, name);
         }
@@ -61,10 +62,12 @@ impl Frames {
         }
     }
 
-    fn add_stages(&mut self, number: u64, case: &Case) -> Stages {
+    /// Compares the stages by these calls with the ruled Rust's.
+    fn add_stages(&mut self, calls: &Calls, number: u64, case: &Case) -> Stages {
         let (size, name) = (case.frame.half_edges(), || shown(number, case));
-        let (ours, theirs) = (OURS.stages(&case.frame), RULED.stages(&case.frame));
+        let (ours, theirs) = (calls.stages(&case.frame), RULED.stages(&case.frame));
         self.classes.add(&ours.classes, &theirs.classes, size, name);
+        self.fits.add(&ours.fits, &theirs.fits, size, name);
         self.quads.add(&ours.quads, &theirs.quads, size, name);
         if let (Some(ours), Some(theirs)) = (&ours.kept, &theirs.kept) {
             let pairs = ours.iter().zip(theirs);
@@ -86,6 +89,7 @@ impl Frames {
         let mut same = self.frames.print("frames", &["components", "entries"]);
         println!("  accepted with {MOST_CORNERS} corners and {MOST_HALF_EDGES} half-edges: {}", self.full);
         same &= self.classes.print("classes", &["classes"]);
+        same &= self.fits.print("fits", &["fits"]);
         same &= self.quads.print("quads", &["quads"]);
         self.kept.iter().zip(FILTERS).for_each(|(kept, name)| same &= kept.print(name, &["kept"]));
         same &= self.run.print("these stages beside those of the whole run");
@@ -114,6 +118,8 @@ pub fn check(count: u64, seed: u64) -> bool {
 #[cfg(test)]
 mod tests {
     use super::*;
+    use crate::stages::Classify;
+    use frame::Frame;
     use oracle::frames::full_twins;
     use oracle::judge::Refusal;
 
@@ -148,6 +154,36 @@ mod tests {
         // three of the numbers are no rule, and rows 1 to 3 come before
         let refused = [frames.frames.refused_by(18), frames.classes.refused_by(18), frames.quads.refused_by(18)];
         assert!(parted > 50 && refused[0] > 1_600 && refused[1] >= refused[0] && refused[2] == 0, "{parted} {refused:?}");
+    }
+
+    /// The archive's call with a fault in its fits: 0 for -0, -0 for 0, another number for -1, or the next float for one above 0.
+    fn wrong<const FAULT: u32>(frame: &Frame, classes: &mut [u32], fits: &mut [f32]) -> Result<(), Refusal> {
+        archive::classify_all_edges(frame, classes, fits)?;
+        for fit in fits {
+            match FAULT {
+                0 if *fit == 0.0 => *fit = 0.0,
+                1 if *fit == 0.0 => *fit = -0.0,
+                2 if *fit == -1.0 => *fit = -2.0,
+                3 if *fit > 0.0 => *fit = f32::from_bits(fit.to_bits() + 1),
+                _ => (),
+            }
+        }
+        Ok(())
+    }
+
+    /// In the fits, and in nothing else of the stages.
+    #[test]
+    fn a_wrong_fit_is_told() {
+        let faults: [Classify; 4] = [wrong::<0>, wrong::<1>, wrong::<2>, wrong::<3>];
+        for classes in faults {
+            let (mut frames, calls) = (Frames::default(), Calls { classes, ..OURS });
+            for number in 0..200 {
+                frames.add_stages(&calls, number, &drawn(1, number as usize).case);
+            }
+            assert!(frames.classes.print("classes", &["classes"]) && frames.quads.print("quads", &["quads"]));
+            assert!(!frames.fits.print("fits", &["fits"]));
+            assert!(!frames.print());
+        }
     }
 
     #[test]

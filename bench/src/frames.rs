@@ -1,6 +1,6 @@
 // Time of the whole frame's call, and of each stage's, beside the unchanged Rust's, over the same frames in the same run; the best of
-// several rounds. The Rust gets its lists in its own form, made before its time begins; it checks nothing, orders no entries and counts
-// no holes. Of ours, the lent lists are as the call before left them.
+// several rounds. The Rust gets its lists in its own form, made before its time begins; it checks nothing, hands back no distances,
+// orders no entries and counts no holes. Of ours, the lent lists are as the call before left them.
 
 use crate::{archive, meshes, timing};
 use frame::Frame;
@@ -35,8 +35,9 @@ impl Staged<'_> {
 
     /// Gives the classes; the axis caches are part of the call.
     fn classes(&self) -> Vec<u32> {
-        let mut classes = vec![0; self.frame.half_edges()];
-        let ours = timing::best(|| (), |()| archive::classify_all_edges(self.frame, &mut classes));
+        let half_edges = self.frame.half_edges();
+        let (mut classes, mut fits) = (vec![0; half_edges], vec![0.0; half_edges]);
+        let ours = timing::best(|| (), |()| archive::classify_all_edges(self.frame, &mut classes, &mut fits));
         self.row("classes", classes.len(), ours, timing::best(|| (), |()| self.rust.classes()));
         classes
     }

@@ -10,11 +10,14 @@ use oracle::told::Told;
 /// How many quads a call gives, or its refusal.
 type Counted = Result<usize, Refusal>;
 
+/// A call that writes the classes and the fits.
+pub type Classify = fn(&Frame, &mut [u32], &mut [f32]) -> Result<(), Refusal>;
+
 /// The calls of one side.
 pub struct Calls {
-    classes: fn(&Frame, &mut [u32]) -> Result<(), Refusal>,
-    quads: fn(&Frame, &[u32], &mut [u32]) -> Counted,
-    filters: fn(&Frame, &[u32], &mut [u32], &mut [u32]) -> Counted,
+    pub classes: Classify,
+    pub quads: fn(&Frame, &[u32], &mut [u32]) -> Counted,
+    pub filters: fn(&Frame, &[u32], &mut [u32], &mut [u32]) -> Counted,
 }
 
 pub const OURS: Calls =
@@ -28,9 +31,10 @@ const REST: u32 = 0x5EED_5EED;
 /// The words that a list of quads has beyond its greatest answer.
 const MORE: usize = 5;
 
-/// The number of classes and their list; of quads and theirs.
+/// The number of classes and their list; of fits and theirs, by their bits; of quads and theirs.
 pub struct Stages {
     pub classes: Told<1, 1>,
+    pub fits: Told<1, 1>,
     pub quads: Told<1, 1>,
     /// The number that the first filter keeps, the first two, all three; each with the workspace and the list of kept quads. None where
     /// the call before it refused.
@@ -52,9 +56,12 @@ fn front<const LISTS: usize>(told: &Told<1, LISTS>, words: usize) -> Option<&[u3
 }
 
 impl Calls {
-    fn classes(&self, frame: &Frame) -> Told<1, 1> {
-        let half_edges = frame.half_edges();
-        Told::by([vec![REST; half_edges]], |[list]| (self.classes)(frame, list).map(|()| [half_edges]))
+    /// What the classes' call, lent lists of these lengths, leaves of the classes and of the fits.
+    fn classes(&self, frame: &Frame, lengths: [usize; 2]) -> [Told<1, 1>; 2] {
+        let (mut classes, mut fits) = (vec![REST; lengths[0]], vec![f32::from_bits(REST); lengths[1]]);
+        let result = (self.classes)(frame, &mut classes, &mut fits).map(|()| [frame.half_edges()]);
+        let fits = fits.into_iter().map(f32::to_bits).collect();
+        [classes, fits].map(|list| Told { result, lists: [list] })
     }
 
     fn quads(&self, frame: &Frame, classes: &[u32]) -> Told<1, 1> {
@@ -70,12 +77,12 @@ impl Calls {
 
     /// The stages of a frame. Where the classes are refused, those of the quads are all Spurious.
     pub fn stages(&self, frame: &Frame) -> Stages {
-        let classes = self.classes(frame);
+        let [classes, fits] = self.classes(frame, [frame.half_edges(); 2]);
         let spurious = vec![0; frame.half_edges()];
         let quads = self.quads(frame, front(&classes, 1).unwrap_or(&spurious));
         let filtered = |quads| [1, 2, 3].map(|filters| self.kept(&by_the_first(filters, frame), quads));
         let kept = front(&quads, 4).map(filtered);
-        Stages { classes, quads, kept }
+        Stages { classes, fits, quads, kept }
     }
 }
 
@@ -92,5 +99,24 @@ impl Stages {
         front(&self.classes, 1) == Some(&run.classes[..])
             && front(&self.quads, 4) == Some(&run.quads[..])
             && self.kept.as_ref().is_some_and(|kept| (1..).zip(kept).all(same))
+    }
+}
+
+#[cfg(test)]
+mod tests {
+    use super::*;
+    use crate::meshes;
+
+    /// Row 1 of both sides, whichever list is short or long; every word of both lists is as it was.
+    #[test]
+    fn classes_and_fits_of_other_lengths() {
+        let frame = meshes::perfect(4);
+        let all = frame.half_edges();
+        for lengths in [[all, all - 1], [all, all + 1], [all, 0], [all - 1, all], [all + 1, all], [all - 1, all - 1]] {
+            let [ours, ruled] = [OURS, RULED].map(|calls| calls.classes(&frame, lengths));
+            assert_eq!(ours, ruled);
+            let result = Err(Refusal { row: 1, place: 0, beside: 0 });
+            assert_eq!(ours, lengths.map(|length| Told { result, lists: [vec![REST; length]] }));
+        }
     }
 }

@@ -29,6 +29,11 @@
 //! An axis may come without a spread. By default it counts, as in the original Rust library. Where the corner finder leaves a spread out
 //! because its fit gave up, [`SpreadRule::MissingUninformative`] in [`EdgeParams`] makes such an axis count for nothing.
 //!
+//! # How well a side fits
+//!
+//! [`classify_all_edges`] writes beside each Grid side's class how far from the axes at its ends it lies: what there is to know before
+//! a tighter tolerance is chosen.
+//!
 //! # Refusals
 //!
 //! Every call is total: it answers, or it refuses and says why and where ([`Refusal`]). A refusal leaves the lists that are written

@@ -109,6 +109,8 @@ extern "C" {
         rule: u32,
         classes: *mut u32,
         class_count: usize,
+        fits: *mut f32,
+        fit_count: usize,
     ) -> Verdict;
     pub fn ngeunsadok_merge_triangle_pairs(
         x: *const f32,

@@ -1,4 +1,4 @@
-//! From a triangulation to quads: the classes of half-edges, and the quads of triangle pairs.
+//! From a triangulation to quads: the classes and the fits of half-edges, and the quads of triangle pairs.
 
 use crate::numbers::SpreadRule;
 use crate::raw;
@@ -52,15 +52,38 @@ pub struct Mesh<'a> {
     pub classes: &'a [u32],
 }
 
-/// Writes the class of every half-edge into `classes`, which is as long as `triangles`.
+/// Writes the class of every half-edge into `classes`, and into `fits` how well it fits; both are as long as `triangles`.
+///
+/// The fit of a Grid half-edge is the greater of its distances, in radians, from the nearest axis that counts at either end; where neither
+/// is greater, the start's, also of -0 and 0. It tells how near the side came to the tolerance: it is Grid by every tolerance above its fit
+/// and by no other. The fit of every other half-edge is -1.
+///
+/// ```
+/// use ngeunsadok::{classify_all_edges, Axes, EdgeParams, Positions};
+///
+/// // A triangle with axes along its two short sides; the first axis of corner 0 is turned by an eighth of a radian.
+/// let up = std::f32::consts::FRAC_PI_2;
+/// let corners = Positions { x: &[0.0, 10.0, 10.0], y: &[0.0, 0.0, 10.0] };
+/// let axes = Axes { angles: &[0.125, up, 0.0, up, 0.0, up], marks: &[0; 6], spreads: &[0.0; 6] };
+/// let (mut classes, mut fits) = ([0; 3], [0.0; 3]);
+/// let mut call = |tolerance| {
+///     let params = EdgeParams { tolerance, ..EdgeParams::default() };
+///     classify_all_edges(corners, axes, &[0, 1, 2], params, &mut classes, &mut fits)?;
+///     Ok::<_, ngeunsadok::Refusal>((classes, fits))
+/// };
+/// assert_eq!(call(0.25)?, ([1, 1, 2], [0.125, 0.0, -1.0]));
+/// assert_eq!(call(0.125)?, ([0, 1, 0], [-1.0, 0.0, -1.0]));
+/// # Ok::<(), ngeunsadok::Refusal>(())
+/// ```
 pub fn classify_all_edges(
     corners: Positions,
     axes: Axes,
     triangles: &[u32],
     params: EdgeParams,
     classes: &mut [u32],
+    fits: &mut [f32],
 ) -> Result<(), Refusal> {
-    // SAFETY: each pointer comes with the length of its slice, and no other slice shares the one that is written.
+    // SAFETY: each pointer comes with the length of its slice, and no other slice shares those that are written.
     let verdict = unsafe {
         raw::ngeunsadok_classify_all_edges(
             corners.x.as_ptr(),
@@ -80,6 +103,8 @@ pub fn classify_all_edges(
             params.rule.number(),
             classes.as_mut_ptr(),
             classes.len(),
+            fits.as_mut_ptr(),
+            fits.len(),
         )
     };
     told(verdict.refused, verdict.place, 0, ())

@@ -38,10 +38,10 @@ fn an_axis_without_a_spread_is_informative() {
 fn the_square_from_triangles_to_entries() {
     let angles = [0.0, std::f32::consts::FRAC_PI_2].repeat(4);
     let axes = Axes { angles: &angles, marks: &[0; 8], spreads: &[0.0; 8] };
-    let mut classes = [REST; 6];
+    let (mut classes, mut fits) = ([REST; 6], [77.0; 6]);
     let params = EdgeParams { tolerance: 0.25, limit: 1.0, ..EdgeParams::default() };
-    assert_eq!(classify_all_edges(CORNERS, axes, &TRIANGLES, params, &mut classes), Ok(()));
-    assert_eq!(classes, [1, 1, 2, 2, 1, 1]);
+    assert_eq!(classify_all_edges(CORNERS, axes, &TRIANGLES, params, &mut classes, &mut fits), Ok(()));
+    assert_eq!((classes, fits), ([1, 1, 2, 2, 1, 1], [0.0, 0.0, -1.0, -1.0, 0.0, 0.0]));
 
     let mesh = Mesh { triangles: &TRIANGLES, twins: &TWINS, classes: &classes };
     let mut quads = [[REST; 4]; 2];
@@ -97,6 +97,8 @@ fn labels_of_the_paper() {
 #[test]
 fn lists_without_elements_are_lists() {
     let nothing = Positions { x: &[], y: &[] };
+    let axes = Axes { angles: &[], marks: &[], spreads: &[] };
+    assert_eq!(classify_all_edges(nothing, axes, &[], EdgeParams::default(), &mut [], &mut []), Ok(()));
     let mesh = Mesh { triangles: &[], twins: &[], classes: &[] };
     assert_eq!(merge_triangle_pairs(nothing, mesh, &mut []), Ok(0));
     let params = LabelParams { quads: 1, corners: 1 };

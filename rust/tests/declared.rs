@@ -72,6 +72,7 @@ fn paired(parts: Vec<Part>) -> Vec<Part> {
         let list = match kind.as_str() {
             "*const f32" => "&[f32]",
             "*const u32" => "&[u32]",
+            "*mut f32" => "&mut [f32]",
             "*mut u32" => "&mut [u32]",
             _ => {
                 single.push((kind, called));

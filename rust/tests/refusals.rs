@@ -67,10 +67,12 @@ fn rows_of_single_numbers() {
 fn rows_of_the_classes() {
     let axes = Axes { angles: &[0.0; 8], marks: &[0; 8], spreads: &[0.0; 8] };
     let params = EdgeParams { tolerance: f32::NAN, ..EdgeParams::default() };
-    let mut classes = [REST; 6];
-    refused(classify_all_edges(CORNERS, axes, &[0, 1, 2, 0, 2, 3], params, &mut classes), 3, 0, "tolerance is NaN");
-    refused(classify_all_edges(CORNERS, axes, &[0, 1, 2, 0, 2], params, &mut classes[..5]), 1, 0, "not whole");
-    assert_eq!(classes, [REST; 6]);
+    let (mut classes, mut fits) = ([REST; 6], [77.0; 6]);
+    let (whole, cut) = ([0, 1, 2, 0, 2, 3], [0, 1, 2, 0, 2]);
+    refused(classify_all_edges(CORNERS, axes, &whole, params, &mut classes, &mut fits), 3, 0, "tolerance is NaN");
+    refused(classify_all_edges(CORNERS, axes, &whole, params, &mut classes, &mut fits[..5]), 1, 0, "differ in length");
+    refused(classify_all_edges(CORNERS, axes, &cut, params, &mut classes[..5], &mut fits[..5]), 1, 0, "not whole");
+    assert_eq!((classes, fits), ([REST; 6], [77.0; 6]));
 }
 
 #[test]

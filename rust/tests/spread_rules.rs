@@ -36,10 +36,16 @@ fn marked<'a>(frame: Frame<'a>, marks: &'a [u32], spreads: &'a [f32]) -> Frame<'
     Frame { axes: Axes { marks, spreads, ..frame.axes }, ..frame }
 }
 
-fn classes(frame: Frame, rule: SpreadRule) -> Vec<u32> {
-    let mut classes = vec![REST; frame.triangles.len()];
-    let answer = classify_all_edges(frame.corners, frame.axes, frame.triangles, by(rule).edges, &mut classes);
+/// The classes, and the fits by their bits.
+fn classified(frame: Frame, rule: SpreadRule) -> [Vec<u32>; 2] {
+    let (mut classes, mut fits) = (vec![REST; frame.triangles.len()], vec![77.0; frame.triangles.len()]);
+    let answer = classify_all_edges(frame.corners, frame.axes, frame.triangles, by(rule).edges, &mut classes, &mut fits);
     assert_eq!(answer, Ok(()));
+    [classes, fits.into_iter().map(f32::to_bits).collect()]
+}
+
+fn classes(frame: Frame, rule: SpreadRule) -> Vec<u32> {
+    let [classes, _] = classified(frame, rule);
     classes
 }
 
@@ -91,10 +97,10 @@ fn every_choice_of_missing_spreads() {
         let marks: [u32; 8] = std::array::from_fn(|slot| choice >> slot & 1);
         let missing = marks.map(|mark| if mark == 0 { f32::NAN } else { 0.25 });
         let (some, given_up) = (marked(SQUARE, &marks, &[0.25; 8]), marked(SQUARE, &[1; 8], &missing));
-        assert_eq!(classes(some, MissingInformative), classes(present, MissingInformative), "{marks:?}");
+        assert_eq!(classified(some, MissingInformative), classified(present, MissingInformative), "{marks:?}");
         assert_eq!(labels(some, MissingInformative), labels(present, MissingInformative), "{marks:?}");
         for rule in RULES {
-            assert_eq!(classes(some, MissingUninformative), classes(given_up, rule), "{marks:?}");
+            assert_eq!(classified(some, MissingUninformative), classified(given_up, rule), "{marks:?}");
             assert_eq!(labels(some, MissingUninformative), labels(given_up, rule), "{marks:?}");
         }
     }
@@ -166,11 +172,11 @@ fn cached(limit: f32, rule: u32) -> (Said, [u32; 2]) {
     ((cache.refused, cache.place), informative)
 }
 
-/// What the archive says of a frame's classes, and the classes. A refusal leaves them as they were.
+/// What the archive says of a frame's classes, and the classes. A refusal leaves them and the fits as they were.
 fn classed(frame: Frame, edges: EdgeParams, rule: u32) -> (Said, Vec<u32>) {
     let Frame { corners, axes, triangles, .. } = frame;
-    let mut classes = vec![REST; triangles.len()];
-    // SAFETY: each pointer comes with the length of its slice, and no other slice shares the one that is written.
+    let (mut classes, mut fits) = (vec![REST; triangles.len()], vec![77.0; triangles.len()]);
+    // SAFETY: each pointer comes with the length of its slice, and no other slice shares those that are written.
     #[rustfmt::skip] // a line for each list
     let verdict = unsafe {
         raw::ngeunsadok_classify_all_edges(
@@ -182,9 +188,10 @@ fn classed(frame: Frame, edges: EdgeParams, rule: u32) -> (Said, Vec<u32>) {
             triangles.as_ptr(), triangles.len(),
             edges.tolerance, edges.limit, rule,
             classes.as_mut_ptr(), classes.len(),
+            fits.as_mut_ptr(), fits.len(),
         )
     };
-    assert!(verdict.refused == 0 || classes.iter().all(|&class| class == REST));
+    assert!(verdict.refused == 0 || classes.iter().all(|&class| class == REST) && fits.iter().all(|&fit| fit == 77.0));
     ((verdict.refused, verdict.place), classes)
 }
 

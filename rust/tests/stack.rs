@@ -31,9 +31,9 @@ fn single_numbers() {
 
 #[test]
 fn stages() {
-    let (full, mut classes) = (Full::of(0), vec![0; MOST_HALF_EDGES]);
-    let params = Params::default();
-    within(8 * KIB, || classify_all_edges(full.corners(), full.axes(), &full.triangles, params.edges, &mut classes))
+    let (full, params) = (Full::of(0), Params::default());
+    let (mut classes, mut fits) = (vec![0; MOST_HALF_EDGES], vec![0.0; MOST_HALF_EDGES]);
+    within(8 * KIB, || classify_all_edges(full.corners(), full.axes(), &full.triangles, params.edges, &mut classes, &mut fits))
         .expect("the classes");
     let mesh = Mesh { triangles: &full.triangles, twins: &full.twins, classes: &classes };
     let mut quads = vec![[0; 4]; MOST_QUADS];
