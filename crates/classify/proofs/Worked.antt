@@ -6,7 +6,7 @@ use Prim.Native.Nat.{ℕ}
 use lib.Ieee.{Float, neg, ofBits, round, add, sub, mul, div, rem, lt, eq, le, isNan}
 use Rattle.words.specs.Listing.{listing}
 use Rattle.refusal.specs.declared.Gate.the-variants.{Shut}
-use Rattle.refusal.specs.declared.Refusal.the-variants.{NoSuchRule}
+use Rattle.refusal.specs.declared.Refusal.the-variants.{NoSuchRule, Unpaired}
 use Rattle.measure.specs.Float.{bits}
 use Rattle.measure.specs.Angle.{seriesOf, partOf, ratioOf, baseOf, octantOf, acrossOf, belowOf, angleRule}
 use Rattle.measure.specs.declared.Distance.the-variants.{Known}
@@ -16,7 +16,7 @@ use Rattle.mesh.specs.HalfEdge.{nextOf}
 use Rattle.classify.specs.Match.{offered, nearer, matchOf, sideOf, isBelow, noFit, greaterOf, judgedBy, judgedOf, classBy}
 use Rattle.classify.specs.Classes.{Input, axesAt, angleBetween, sideAt, judgedAt, classAt, classesOf}
 use Rattle.classify.specs.Fits.{fitOf, fitAt, fitsOf}
-use Rattle.classify.specs.Call.{valuesGate}
+use Rattle.classify.specs.Call.{valuesGate, fittedGate}
 
 -- four corners of a square with axes along its sides and no spreads, in two triangles
 unfoldable pub frame : ℕ → Float → Input
@@ -74,3 +74,8 @@ greater-of-two = (refl, refl)
 pub start-of-zeros : (greaterOf (Known (bits 0)) (Known (bits 0x80000000)) ≡ bits 0) × (greaterOf (Known (bits 0x80000000)) (Known (bits 0)) ≡ bits 0x80000000)
 unfolding ofBits lt greaterOf
 start-of-zeros = (refl, refl)
+
+-- a fit list that is one short, or one long, is refused by row 1, before a tolerance that is NaN
+pub fits-unpaired : (fittedGate (frame 1 (bits 0x7FC00000)) 6 5 ≡ Shut Unpaired) × (fittedGate (frame 1 (bits 0x7FC00000)) 6 7 ≡ Shut Unpaired)
+unfolding frame fittedGate
+fits-unpaired = (refl, refl)

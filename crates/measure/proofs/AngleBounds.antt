@@ -33,7 +33,7 @@ e3 : Exact 3
 unfolding round
 e3 = (3, 0, refl, refl)
 
-e4 : Exact 4
+pub e4 : Exact 4
 unfolding round
 e4 = (1, 2, refl, refl)
 

@@ -14,7 +14,7 @@ use Rattle.measure.proofs.Rounding.{Small, Bounded, Exact, neg-bounded,
 
 -- ---- a range test is a bound, both ways
 
-le-or : (a b : ℕ) → a ≤ b → (ltb a b || (eqb a b && true)) ≡ true
+pub le-or : (a b : ℕ) → a ≤ b → (ltb a b || (eqb a b && true)) ≡ true
 le-or a b h = go (ltb a b) refl
   where
     go : (p : Bool) → ltb a b ≡ p → (ltb a b || (eqb a b && true)) ≡ true

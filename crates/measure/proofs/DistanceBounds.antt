@@ -1,12 +1,12 @@
 -- A distance is finite and at least 0, or -0: the rest by pi is at most pi in magnitude, and what stands after the first step at most pi.
 -- Assumes nothing.
 use mathlib.Core.Path.{_≡_, refl, subst}
-use mathlib.Core.Bool.{Bool, true, false, cond, _&&_, _||_}
+use mathlib.Core.Bool.{Bool, true, false, cond}
 use Prim.Native.Nat.{ℕ, _+_, _-_, _*_, _%_, _≤_, _<_}
 use native.Mathlib.Nat.{mul-pos, mod-lt}
 use native.Mathlib.Omega.{arith}
 use borrow.Author.Tests.{ltb-false, le-ltb, eq-eqb}
-use lib.Dec.{T, ltb, eqb, lit<}
+use lib.Dec.{T, ltb, lit<}
 use lib.IntN.{ℤ}
 use lib.Ieee.{Float, nan, inf, fin, binary32, up, down, round, rem, sub, add, sum, neg, lt, le, eq, ofBits}
 use lib.Ieee.Bits.{is-true}
@@ -17,7 +17,9 @@ use Rattle.measure.specs.Float.{bits}
 use Rattle.measure.specs.declared.Distance.{Distance}
 use Rattle.measure.specs.declared.Distance.the-variants.{Known, Missing}
 use Rattle.measure.specs.Distance.{pi, lifted, folded, apart, numberOrNone, distanceOf}
-use Rattle.measure.proofs.Rounding.{Exact, or-le, small-round, round-neg}
+use Rattle.measure.proofs.Rounding.{or-le, small-round, round-neg}
+use Rattle.measure.proofs.Bounds.{le-or}
+use Rattle.measure.proofs.AngleBounds.{e4}
 
 -- ---- a fraction of at most pi, which is 13176795 / 2^22, rounds to at most pi
 
@@ -26,10 +28,6 @@ InPi m e = m * up e * 4194304 ≤ 13176795 * 1 * down e
 
 abbrev UpToPi : Float → Type 0
 UpToPi x = (m : ℕ) × (e : ℤ) × (x ≡ fin false m e) × InPi m e
-
-four : Exact 4
-unfolding round
-four = (1, 2, refl, refl)
 
 own : round binary32 false 13176795 4194304 ≡ pi
 unfolding round ofBits
@@ -40,7 +38,7 @@ unfolding le lt eq ofBits
 le-pi m e h = or-le (m * up e * 4194304) (13176795 * 1 * down e) true h
 
 round-up-to : (a b : ℕ) → 0 < b → a * 4194304 ≤ 13176795 * b → UpToPi (round binary32 false a b)
-round-up-to a b z h = go (small-round 4 a b four z (omega arith))
+round-up-to a b z h = go (small-round 4 a b e4 z (omega arith))
   where
     below : le (round binary32 false a b) pi ≡ true
     below = subst (λ (y : Float). le (round binary32 false a b) y ≡ true) own (is-true _ (round-mono binary32 a b 13176795 4194304 z (lit< tt) h))
@@ -52,11 +50,7 @@ round-up-to a b z h = go (small-round 4 a b four z (omega arith))
 
 from-zero : (m : ℕ) (e : ℤ) → le (bits 0) (fin false m e) ≡ true
 unfolding le lt eq ofBits
-from-zero m e = go (ltb (0 * 1 * down e) (m * up e * 1)) refl
-  where
-    go : (p : Bool) → ltb (0 * 1 * down e) (m * up e * 1) ≡ p → (ltb (0 * 1 * down e) (m * up e * 1) || (eqb (0 * 1 * down e) (m * up e * 1) && true)) ≡ true
-    go true h = rw h
-    go false h = let none : 0 * 1 * down e ≡ m * up e * 1 = omega (arith, ltb-false (0 * 1 * down e) (m * up e * 1) h) in rw (h, eq-eqb _ _ none)
+from-zero m e = le-or (0 * 1 * down e) (m * up e * 1) (omega arith)
 
 minus-zero : (m : ℕ) (e : ℤ) → m * up e ≡ 0 → le (bits 0) (fin true m e) ≡ true
 unfolding le lt eq ofBits
