@@ -42,7 +42,8 @@
  *               counts at either end, the start's where neither is greater (of -0 and 0 neither is); else -1. It tells how near a Grid
  *               side came to the tolerance: the side is Grid by every tolerance above its fit and by no other
  *   quads       four corners a quad, in order round it
- *   components  three words a component: the entries before its own, how many are its own, its holes
+ *   components  three words a component: the entries before its own, how many are its own, its holes; a hole is a place without an entry
+ *               of the component that has some at a lower and at a higher u with its v, and at a lower and at a higher v with its u
  *   entries     three words an entry: u, v, corner; a component's stand together, in order of u, then v
  *   work        the workspace, lent for the call
  *
@@ -171,7 +172,8 @@ typedef struct {
     uint32_t entries;
 } ngeunsadok_counts;
 
-/* A component: the entries before its own, how many are its own, and the places in its rectangle that hold no corner. */
+/* A component: the entries before its own, how many are its own, and its holes: places without one of its entries between others of them
+ * both in their row and in their column. */
 typedef struct {
     uint32_t before;
     uint32_t entries;

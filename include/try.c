@@ -290,6 +290,42 @@ static void labels(void) {
     EXPECT(memcmp(entries, placed, sizeof entries) == 0);
 }
 
+/* The holes of the cells of five corners by five, numbered along the rows, that have none of the marked corners: a place counts that has
+ * corners on all four sides, and no other. */
+static void holes(void) {
+    static const struct {
+        const char *corners; /* along the rows */
+        uint32_t entries, holes;
+    } sheets[] = {
+        {"ooooo" "ooooo" "oo.oo" "ooooo" "ooooo", 24, 1}, /* a hole */
+        {"ooo.." "ooo.." "ooo.." "ooooo" "ooooo", 19, 0}, /* an L */
+        {"oo.oo" "oo.oo" "oo.oo" "ooooo" "ooooo", 22, 0}, /* open to each side in turn */
+        {"ooooo" "ooooo" "oo..." "ooooo" "ooooo", 22, 0},
+        {"ooooo" "ooooo" "oo.oo" "oo.oo" "oo.oo", 22, 0},
+        {"ooooo" "ooooo" "...oo" "ooooo" "ooooo", 22, 0},
+    };
+    static uint32_t quads[64], space[32 * 16 + 16 * 25], component[3], entry[75];
+    size_t k;
+
+    for (k = 0; k < sizeof sheets / sizeof *sheets; k++) {
+        const char *const at = sheets[k].corners;
+        ngeunsadok_counts counts;
+        size_t words = 0;
+        uint32_t a;
+
+        for (a = 0; a < 19; a++) {
+            if (a % 5 == 4 || at[a] != 'o' || at[a + 1] != 'o' || at[a + 5] != 'o' || at[a + 6] != 'o') continue;
+            quads[words++] = a;
+            quads[words++] = a + 1;
+            quads[words++] = a + 6;
+            quads[words++] = a + 5;
+        }
+        counts = ngeunsadok_label_components(quads, words, 25, 1, 4, space, sizeof space / sizeof *space, component, 3, entry, 75);
+        EXPECT(counts.refused == 0 && counts.components == 1 && counts.entries == sheets[k].entries);
+        EXPECT(component[0] == 0 && component[1] == sheets[k].entries && component[2] == sheets[k].holes);
+    }
+}
+
 /* The frame in structs answers as it does word by word, and the defaults are the original's to the bit. */
 static void structs(void) {
     const ngeunsadok_frame square_frame = {4, x, y, angles, marks, spreads, 6, triangles, twins};
@@ -410,6 +446,7 @@ int main(void) {
     rules();
     filters();
     labels();
+    holes();
     structs();
     parameters();
     nothing();

@@ -15,4 +15,5 @@ fn ours(case: &Case) -> Told<1, 2> {
     Told::by(case.lent(), |[work, kept]| archive::filter_quads(&case.frame, &case.quads, work, kept).map(|n| [n]))
 }
 
-pub const FILTERS: Call<Case, 1, 2> = Call { name: "filters", counts: ["kept"], any: any_case, large, damage, ours };
+pub const FILTERS: Call<Case, 1, 2> =
+    Call { name: "filters", counts: ["kept"], any: any_case, large, damage, ours, places: None };

@@ -7,6 +7,7 @@ use crate::stages::{Calls, Stages, OURS, RULED};
 use crate::tally::{Beside, Tally};
 use oracle::frames::{drawn, expected, Unchanged};
 use oracle::judge::{MOST_CORNERS, MOST_HALF_EDGES};
+use oracle::places::Places;
 use oracle::text;
 use oracle::told::Told;
 use oracle::vectors::frames::Case;
@@ -32,6 +33,8 @@ struct Frames {
     unchanged: [[Tally; 3]; 2],
     /// Accepted frames with as many corners and half-edges as there may be.
     full: u64,
+    /// The places of the components that the ruled Rust has.
+    places: Places,
 }
 
 /// Names a frame by its number, and shows it where it is small.
@@ -49,6 +52,7 @@ impl Frames {
         let ours = Told::by(case.lent(), |[work, components, entries]| archive::label_frame(frame, [work, components, entries]));
         let expected = expected(case);
         self.frames.add(&ours, &expected.told, size, name);
+        self.places.add_told(&expected.told);
         let stages = self.add_stages(&OURS, number, case);
         if let Some(run) = &expected.between {
             self.run.add(stages.are_those_of(run), size, name);
@@ -88,6 +92,7 @@ impl Frames {
     fn print(&self) -> bool {
         let mut same = self.frames.print("frames", &["components", "entries"]);
         println!("  accepted with {MOST_CORNERS} corners and {MOST_HALF_EDGES} half-edges: {}", self.full);
+        println!("  {}", self.places);
         same &= self.classes.print("classes", &["classes"]);
         same &= self.fits.print("fits", &["fits"]);
         same &= self.quads.print("quads", &["quads"]);
@@ -184,6 +189,24 @@ mod tests {
             assert!(!frames.fits.print("fits", &["fits"]));
             assert!(!frames.print());
         }
+    }
+
+    /// The archive's answers with a hole more in the first component that has some: told in the frames, and in nothing else.
+    #[test]
+    fn a_wrong_hole_is_told() {
+        let mut frames = Frames::default();
+        for number in 0..200 {
+            let case = drawn(1, number as usize).case;
+            let told = expected(&case).told;
+            let mut ours = told.clone();
+            let components = told.result.map_or(0, |[components, _]| components);
+            let holed = (0..components).find(|k| told.lists[1][3 * k + 2] > 0);
+            holed.inspect(|k| ours.lists[1][3 * k + 2] += 1);
+            frames.frames.add(&ours, &told, 0, String::new);
+            frames.places.add_told(&told);
+        }
+        assert!(!frames.print());
+        assert!(frames.places.holed > 0);
     }
 
     #[test]

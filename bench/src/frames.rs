@@ -5,7 +5,7 @@
 use crate::{archive, meshes, timing};
 use frame::Frame;
 use oracle::calls::{words_wanted, Given};
-use oracle::vectors::frames::Case;
+use oracle::vectors::frames::{planned, Case};
 use prepared::{Prepared, Quads};
 
 /// A whole frame. One that is refused has no components; the Rust refuses none.
@@ -103,7 +103,7 @@ fn worst() -> Vec<(&'static str, Case)> {
     let mut short = Case::of(noisy());
     short.entries.truncate(3 * 4_095);
     let shuffled = |frame: Frame| Case::of(meshes::shuffled(&frame));
-    vec![
+    let mut worst = vec![
         ("grid of 64 by 64, noisy, triangles shuffled", shuffled(noisy())),
         ("closed grid of 64 by 64, 24,576 half-edges", Case::of(meshes::closed())),
         ("all on one side", Case::of(meshes::one_side())),
@@ -115,7 +115,9 @@ fn worst() -> Vec<(&'static str, Case)> {
         ("noisy, last twin wrong", Case::of(meshes::last_twin_wrong(noisy()))),
         ("noisy, room for 4,095 entries", short),
         ("empty", Case::of(Frame::default())),
-    ]
+    ];
+    worst.extend(meshes::hollow().map(|(name, plan)| (name, Case::of(planned(&plan)))));
+    worst
 }
 
 pub fn run() {

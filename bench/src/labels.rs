@@ -2,8 +2,7 @@
 // gets its quads in its own form, made before its time begins; it neither orders its entries nor counts holes. Of ours, the lent lists
 // are as the call before left them: the workspace all zero by that call, the answer at the front of the others.
 
-use crate::archive;
-use crate::timing;
+use crate::{archive, meshes, timing};
 use oracle::vectors::labels::{grid, Case};
 use oracle::vectors::OverQuads;
 use plain::Labelling;
@@ -41,6 +40,7 @@ pub fn run() {
     row("snake", &grid(2_047, 1));
     row("snake, shuffled", &grid(2_047, 1).shuffled(5));
     row("all apart", &apart());
+    meshes::hollow().iter().for_each(|(name, plan)| row(name, &Case::of(&plan.quads)));
     row("grid of 16 by 16 corners", &grid(15, 15));
     timing::say_what_is_lent();
 }

@@ -27,9 +27,10 @@ bench check roots             every f32's root beside the machine's own
 bench check pairs COUNT SEED  angles and distances beside document 01's rules in Rust
 bench check filters COUNT SEED
                               the filters on drawn lists beside the ruled Rust, every word
-bench check labels COUNT SEED the labelling on drawn lists beside the Rust's walk, every word
+bench check labels COUNT SEED the labelling on drawn lists beside the Rust's walk, every word; one in four is of sheets with
+                              parts cut out
 bench check frames COUNT SEED whole frames and their stages beside the ruled and the unchanged Rust, every word;
-                              one in 500 has 4,096 corners and 24,576 half-edges
+                              one in 500 has 4,096 corners and 24,576 half-edges, one in six is of sheets with parts cut out
 bench help                    this list
 A check that finds a difference ends with status 1; no words, or words that cannot be read, with status 2.
 Document 01 is the customer's paper with the rules that the port follows; docs/GUIDE.md has what a user needs of it.

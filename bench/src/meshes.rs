@@ -1,7 +1,7 @@
 // The frames that are timed: grids, perfect and noisy, and those that might take longest.
 
 use frame::{Frame, Params, NONE};
-use oracle::generate::{link::link, torus};
+use oracle::generate::{link::link, plans::Plan, torus};
 use oracle::judge::MOST_CORNERS;
 use oracle::random::Random;
 use oracle::vectors::frames::square_grid;
@@ -68,6 +68,16 @@ pub fn four_on_a_side() -> Frame {
 /// A row of squares as long as the corners allow.
 pub fn snake() -> Frame {
     square_grid(2_048, 2)
+}
+
+/// Sheets two corners thick whose rectangles are as empty as the corners allow, with their names: closed, with one hole of 260,100 places;
+/// open to one side, with 520,200 places of which none is a hole; a comb, with 23,520 such places.
+pub fn hollow() -> [(&'static str, Plan); 3] {
+    [
+        ("ring of 514 by 514", Plan::ring(514, 514)),
+        ("ring of 512 by 1,024, open to one side", Plan::open_ring(512, 1_024)),
+        ("comb of 16 teeth, 112 long and 14 apart", Plan::comb(16, 14, 112)),
+    ]
 }
 
 /// Squares without a common corner: as many groups as quads.

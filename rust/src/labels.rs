@@ -42,7 +42,8 @@ impl Default for LabelParams {
     }
 }
 
-/// A component: the entries before its own, how many are its own, and the places of its rectangle that hold no corner.
+/// A component: the entries before its own, how many are its own, and its holes. A hole is a place without one of its entries that has some
+/// to either side of it in its row, the places of equal v, and above and below it in its column, those of equal u.
 #[repr(C)]
 #[derive(Clone, Copy, Debug, Default, PartialEq, Eq)]
 pub struct Component {

@@ -67,12 +67,13 @@ fn the_square_from_triangles_to_entries() {
     assert_eq!(entries, [entry(0, 0, 0), entry(0, 1, 3), entry(1, 0, 1), entry(1, 1, 2), rest]);
 }
 
-/// The components of quads over ten corners, and their entries.
+/// The components of quads, and their entries.
 fn labelled(quads: &[Quad], params: LabelParams) -> (Vec<Component>, Vec<Entry>) {
-    let mut work = vec![REST; quad_work(quads.len(), 10)];
+    let corners = quads.iter().flatten().max().map_or(0, |last| last + 1);
+    let mut work = vec![REST; quad_work(quads.len(), corners as usize)];
     let mut components = vec![Component::default(); quads.len()];
     let mut entries = vec![Entry::default(); 4 * quads.len()];
-    let counts = label_components(quads, 10, params, &mut work, &mut components, &mut entries).expect("no refusal");
+    let counts = label_components(quads, corners, params, &mut work, &mut components, &mut entries).expect("no refusal");
     components.truncate(counts.components);
     entries.truncate(counts.entries);
     (components, entries)
@@ -88,10 +89,36 @@ fn labels_of_the_paper() {
 
     let round = [[0, 1, 2, 3], [0, 3, 4, 5], [0, 5, 6, 7], [0, 7, 8, 9]];
     let (components, entries) = labelled(&round, LabelParams { quads: 4, corners: 8 });
-    assert_eq!(components, [Component { before: 0, entries: 8, holes: 1 }]);
+    // place (2,1) is claimed twice and has nothing to its right
+    assert_eq!(components, [Component { before: 0, entries: 8, holes: 0 }]);
     assert!(entries.contains(&Entry { u: 0, v: 0, corner: 6 }) && entries.contains(&Entry { u: 1, v: 1, corner: 0 }));
     assert_eq!(labelled(&round, LabelParams { quads: 4, corners: 9 }).0, []);
     assert_eq!(labelled(&round, LabelParams { quads: 5, corners: 8 }).0, []);
+}
+
+/// The cells of five corners by five, numbered along the rows, that have none of these.
+fn without(corners: &[u32]) -> Vec<Quad> {
+    let cells = (0..4).flat_map(|v| (0..4).map(move |u| 5 * v + u)).map(|a| [a, a + 1, a + 6, a + 5]);
+    cells.filter(|cell| !cell.iter().any(|corner| corners.contains(corner))).collect()
+}
+
+/// A place counts that has corners on all four sides, and no other: not those of an L-shaped sheet, nor of one open to a side.
+#[test]
+fn holes_have_corners_on_all_sides() {
+    let any = LabelParams { quads: 1, corners: 1 };
+    let component = |entries, holes| vec![Component { before: 0, entries, holes }];
+    let holes = |corners: &[u32]| labelled(&without(corners), any).0;
+    assert_eq!(holes(&[]), component(25, 0));
+    assert_eq!(holes(&[12]), component(24, 1));
+    assert_eq!(holes(&[3, 4, 8, 9, 13, 14]), component(19, 0));
+    for open in [[12, 17, 22], [12, 13, 14], [2, 7, 12], [10, 11, 12]] {
+        assert_eq!(holes(&open), component(22, 0));
+    }
+    // the second component's corners are none of the first's, which is the L
+    let far = without(&[12]).into_iter().map(|quad| quad.map(|corner| corner + 25));
+    let both: Vec<Quad> = without(&[3, 4, 8, 9, 13, 14]).into_iter().chain(far).collect();
+    let second = Component { before: 19, entries: 24, holes: 1 };
+    assert_eq!(labelled(&both, any).0, [component(19, 0), vec![second]].concat());
 }
 
 #[test]

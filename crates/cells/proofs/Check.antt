@@ -12,7 +12,8 @@ use Rattle.cells.specs.Cells.{Cell, Side, Touch, cell, Neighbours, every
 use Rattle.cells.specs.Cells.Touch.{alike, opposite}
 use Rattle.cells.specs.Groups.{Linked, Groups}
 use Rattle.cells.specs.Groups.Linked.{same, on}
-use Rattle.cells.specs.Twin.{every-one, some-one, numbers}
+use Rattle.cells.specs.Listed.{some-one}
+use Rattle.cells.specs.Twin.{every-one, numbers}
 use Rattle.cells.specs.Check.{joins-alike, joins-opposite, touch-test, path, number-test, groups-test}
 use Rattle.cells.proofs.Links.{joined}
 use Rattle.cells.proofs.Tests.{both, either, or-left, or-right, implied, every-in, some-in, in-some, below-in, in-below}

@@ -15,6 +15,7 @@ pub mod Touching
 pub mod Whole
 pub mod Unique
 pub mod Squares
+pub mod Reach
 pub mod Tests
 pub mod Laying
 pub mod Twin
@@ -25,5 +26,5 @@ pub mod Check
 pub mod Examples
 pub mod Listing
 pub mod Yields
-pub mod Rectangle
+pub mod Gaps
 pub mod Reseed

@@ -1,8 +1,8 @@
--- Laws of sums and counts: they are by what they are of alone, one more at one place is one more in all, and those that pass a test with
--- those that do not are all. Assumes nothing.
+-- Laws of sums and counts: they are by what they are of alone, so much more at one place is so much more in all, and a sum of sums is the
+-- sums' sum. Assumes nothing.
 use mathlib.Core.Path.{_≡_, refl, ap, ap₂}
-use mathlib.Core.Bool.{Bool, true, false, cond, not}
-use Prim.Native.Nat.{ℕ, zero, suc, _+_, _*_, _<_}
+use mathlib.Core.Bool.{Bool, cond}
+use Prim.Native.Nat.{ℕ, zero, suc, _+_, _<_}
 use native.Mathlib.Decide.{ℕ-discrete}
 use native.Mathlib.Omega.{arith}
 use Rattle.cells.specs.Sums.{total, howMany}
@@ -14,23 +14,22 @@ unfolding total
 total-same f g zero h = refl
 total-same f g (suc n) h = ap₂ _+_ (total-same f g n (λ i l. h i (omega arith))) (h n (omega arith))
 
--- one more at one place is one more in all
-pub total-more : (f g : ℕ → ℕ) (n at : ℕ) → at < n → g at ≡ f at + 1 → ((i : ℕ) → (i ≡ at → ⊥) → g i ≡ f i) → total g n ≡ total f n + 1
+-- d more at one place is d more in all
+pub total-more : (f g : ℕ → ℕ) (n at d : ℕ) → at < n → g at ≡ f at + d → ((i : ℕ) → (i ≡ at → ⊥) → g i ≡ f i) → total g n ≡ total f n + d
 unfolding total
-total-more f g zero at l e h = absurd (omega arith)
-total-more f g (suc n) at l e h = go (ℕ-discrete n at) (λ m. total-more f g n at m e h)
+total-more f g zero at d l e h = absurd (omega arith)
+total-more f g (suc n) at d l e h = go (ℕ-discrete n at) (λ m. total-more f g n at d m e h)
   where
-    go : Dec (n ≡ at) → (at < n → total g n ≡ total f n + 1) → total g n + g n ≡ total f n + f n + 1
+    go : Dec (n ≡ at) → (at < n → total g n ≡ total f n + d) → total g n + g n ≡ total f n + f n + d
     go (yes p) r =
-        let q : g n ≡ f n + 1 = rw p e in
+        let q : g n ≡ f n + d = rw p e in
         omega (arith, total-same f g n (λ i m. h i (λ c. omega arith)))
     go (no p) r = omega (arith, r (omega arith), h n p)
 
--- where f and g add up to m everywhere, their sums add up to n times m
-pub total-both : (f g : ℕ → ℕ) (m n : ℕ) → ((i : ℕ) → f i + g i ≡ m) → total f n + total g n ≡ n * m
+pub total-sum : (f g s : ℕ → ℕ) (n : ℕ) → ((i : ℕ) → s i ≡ f i + g i) → total s n ≡ total f n + total g n
 unfolding total
-total-both f g m zero h = omega arith
-total-both f g m (suc n) h = omega (arith, total-both f g m n h, h n)
+total-sum f g s zero h = refl
+total-sum f g s (suc n) h = omega (arith, total-sum f g s n h, h n)
 
 pub total-zero : (f : ℕ → ℕ) (n : ℕ) → ((i : ℕ) → f i ≡ 0) → total f n ≡ 0
 unfolding total
@@ -47,14 +46,3 @@ total-first f (suc n) = omega (arith, total-first f n)
 
 pub how-many-same : (P Q : ℕ → Bool) (n : ℕ) → ((k : ℕ) → k < n → Q k ≡ P k) → howMany Q n ≡ howMany P n
 how-many-same P Q n h = total-same (λ k. cond (P k) 1 0) (λ k. cond (Q k) 1 0) n (λ k l. ap (λ (b : Bool). cond b 1 0) (h k l))
-
-pub how-many-more : (P Q : ℕ → Bool) (n at : ℕ) → at < n → Q at ≡ true → P at ≡ false → ((k : ℕ) → (k ≡ at → ⊥) → Q k ≡ P k) → howMany Q n ≡ howMany P n + 1
-how-many-more P Q n at l q p h = total-more (λ k. cond (P k) 1 0) (λ k. cond (Q k) 1 0) n at l (rw (q, p)) (λ k m. ap (λ (b : Bool). cond b 1 0) (h k m))
-
--- those that pass a test, and those that do not, are all
-pub how-many-both : (P : ℕ → Bool) (n : ℕ) → howMany (λ k. not (P k)) n + howMany P n ≡ n
-how-many-both P n = omega (arith, total-both (λ k. cond (not (P k)) 1 0) (λ k. cond (P k) 1 0) 1 n (λ k. one-of (P k)))
-  where
-    one-of : (b : Bool) → cond (not b) 1 0 + cond b 1 0 ≡ 1
-    one-of true = refl
-    one-of false = refl

@@ -7,9 +7,9 @@ use Prim.Native.Nat.{ℕ, zero, suc, _<_}
 use native.Mathlib.Omega.{arith}
 use native.Mathlib.Decide.{ℕ-discrete}
 use lib.ListN.{length}
-use Rattle.cells.specs.Listed.{In}
+use Rattle.cells.specs.Listed.{In, some-one}
 use Rattle.cells.specs.Listed.In.{first, later}
-use Rattle.cells.specs.Twin.{every-one, some-one, numbers}
+use Rattle.cells.specs.Twin.{every-one, numbers}
 
 pub never : {A : Type 0} → true ≡ false → A
 never e = absurd (true≢false e)
@@ -17,6 +17,9 @@ never e = absurd (true≢false e)
 pub both : (a b : Bool) → (a && b) ≡ true → (a ≡ true) × (b ≡ true)
 both true b e = (refl, e)
 both false b e = never (sym e)
+
+pub passes : (a b : Bool) → a ≡ true → b ≡ true → (a && b) ≡ true
+passes a b p q = ap₂ _&&_ p q
 
 not-both : (a b : Bool) → (a && b) ≡ false → (a ≡ false) ⊎ (b ≡ false)
 not-both true b e = inr e
@@ -37,6 +40,16 @@ or-left false b e = never (sym e)
 pub or-right : (a b : Bool) → b ≡ true → (a || b) ≡ true
 or-right true b e = refl
 or-right false b e = e
+
+pub not-passed : (a : Bool) → (a ≡ true → ⊥) → a ≡ false
+not-passed true h = absurd (h refl)
+not-passed false h = refl
+
+-- two tests that pass together are one
+pub same-truth : (a b : Bool) → (a ≡ true → b ≡ true) → (b ≡ true → a ≡ true) → a ≡ b
+same-truth true b p q = sym (p refl)
+same-truth false true p q = q refl
+same-truth false false p q = refl
 
 -- where a, there b
 pub implied : (a b : Bool) → (not a || b) ≡ true → a ≡ true → b ≡ true

@@ -6,7 +6,8 @@ use Prim.Native.Nat.{ℕ, zero, suc, _+_, _/_, _%_}
 use lib.Dec.{eqb, leb}
 use lib.ListN.{length}
 use Rattle.cells.specs.Cells.{Cell, cell}
-use Rattle.cells.specs.Twin.{every-one, some-one, numbers}
+use Rattle.cells.specs.Listed.{some-one}
+use Rattle.cells.specs.Twin.{every-one, numbers}
 
 -- side i of p and side j of q join the same two corners
 abbrev pub joins-alike : Cell → Cell → ℕ → ℕ → Bool

@@ -1,11 +1,11 @@
--- Holes: the places of a component's rectangle, from (0,0) to greatest u and v, that hold no listed corner. A predicate on places says
--- which count.
-use mathlib.Core.Bool.{Bool, false, not, _&&_, _||_}
+-- Holes: the places of a component's rectangle, from (0,0) to greatest u and v, that hold no listed corner and have some on both sides of
+-- them, in their row and in their column. A predicate on places says which count.
+use mathlib.Core.Bool.{Bool, not, _&&_}
 use mathlib.Core.List.{List, [], _∷_}
 use Prim.Native.Nat.{ℕ, suc, max}
-use lib.Dec.{eqb}
+use lib.Dec.{eqb, ltb}
 use Rattle.cells.specs.Sums.{total, howMany}
-use Rattle.cells.specs.Listed.{Entry}
+use Rattle.cells.specs.Listed.{some-one, Entry}
 
 -- how many places of the rectangle are as P says
 unfoldable pub places : (ℕ → ℕ → Bool) → ℕ → ℕ → ℕ
@@ -22,8 +22,19 @@ height (e ∷ es) = max (suc (e .v)) (height es)
 
 -- place (u, v) holds a listed corner
 unfoldable pub held : List Entry → ℕ → ℕ → Bool
-held [] u v = false
-held (e ∷ es) u v = (eqb (e .u) u && eqb (e .v) v) || held es u v
+held es u v = some-one (λ (e : Entry). eqb (e .u) u && eqb (e .v) v) es
+
+-- its row, the places of equal v, has listed corners at a lower and at a higher u
+abbrev pub row-around : List Entry → ℕ → ℕ → Bool
+row-around es u v = some-one (λ (e : Entry). eqb (e .v) v && ltb (e .u) u) es && some-one (λ (e : Entry). eqb (e .v) v && ltb u (e .u)) es
+
+-- its column, the places of equal u, has listed corners at a lower and at a higher v
+abbrev pub column-around : List Entry → ℕ → ℕ → Bool
+column-around es u v = some-one (λ (e : Entry). eqb (e .u) u && ltb (e .v) v) es && some-one (λ (e : Entry). eqb (e .u) u && ltb v (e .v)) es
+
+-- it counts: it holds no listed corner, and both its row and its column have some on either side of it
+abbrev pub hole : List Entry → ℕ → ℕ → Bool
+hole es u v = not (held es u v) && (row-around es u v && column-around es u v)
 
 unfoldable pub holes : List Entry → ℕ
-holes es = places (λ (u v : ℕ). not (held es u v)) (width es) (height es)
+holes es = places (hole es) (width es) (height es)

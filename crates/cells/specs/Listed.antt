@@ -1,6 +1,7 @@
 -- A component: the lone corners of a group with their shifted pairs, in order of u, then v; and what becomes of a group.
 use mathlib.Core.Path.{_≡_}
 use mathlib.Core.Logic.{_≢_}
+use mathlib.Core.Bool.{Bool, false, _||_}
 use mathlib.Core.List.{List, [], _∷_, _++_}
 use Prim.Native.Nat.{ℕ, zero, suc, _≤_, _<_}
 use lib.Dec.{eqb}
@@ -14,6 +15,12 @@ use Rattle.cells.specs.Kind.{Pair, _⊕_, Kind, Fits, Lone}
 pub data In {A : Type 0} (e : A) : List A → Type 0 where
   first : {f : A} {es : List A} → e ≡ f → In e (f ∷ es)
   later : {f : A} {es : List A} → In e es → In e (f ∷ es)
+
+-- one of the list passes the test
+module _ {A : Type 0} (test : A → Bool) where
+  abbrev pub some-one : List A → Bool
+  some-one [] = false
+  some-one (x ∷ xs) = test x || some-one xs
 
 -- each stands before all that follow it
 pub data Sorted {A : Type 0} (Before : A → A → Type 0) : List A → Type 0 where

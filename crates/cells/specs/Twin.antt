@@ -1,6 +1,6 @@
 -- A twin of `Fits quads` that computes, for small lists: the reached quads are laid one by one, each on a known side of another, and
 -- there are labels exactly when no corner is laid on two pairs.
-use mathlib.Core.Bool.{Bool, true, false, cond, not, _&&_, _||_}
+use mathlib.Core.Bool.{Bool, true, false, cond, not, _&&_}
 use mathlib.Core.List.{List, [], _∷_, map}
 use mathlib.Core.Option.{Option, none, some}
 use Prim.Native.Nat.{ℕ, zero, suc, _+_, _/_, _%_}
@@ -24,10 +24,6 @@ module _ {A : Type 0} (test : A → Bool) where
   abbrev pub every-one : List A → Bool
   every-one [] = true
   every-one (x ∷ xs) = test x && every-one xs
-
-  abbrev pub some-one : List A → Bool
-  some-one [] = false
-  some-one (x ∷ xs) = test x || some-one xs
 
 -- the numbers below n
 abbrev pub numbers : ℕ → List ℕ

@@ -71,7 +71,7 @@ module _ (i : Input) (work mid : List ℕ) (n span : ℕ) (through : entryGate i
       omega (arith, rows .1, spanned, fated .count, kept-room i (rows .0) (fated .marks), fated .len, fated .computed .len)
 
   pub may-emit : Writable mid span n
-  may-emit = writable computed few long
+  may-emit = writable computed few long (omega (arith, length-words kept, fated .count)) (omega (arith, spanned))
 
   -- the components that stand in the workspace
   abbrev out : List (List Entry)

@@ -34,9 +34,9 @@ one-group quads least-quads least-corners answer = record { cells = quads; group
 abbrev pub four-round : List ℕ
 four-round = 0 ∷ 1 ∷ 2 ∷ 3 ∷ 0 ∷ 3 ∷ 4 ∷ 5 ∷ 0 ∷ 5 ∷ 6 ∷ 7 ∷ 0 ∷ 7 ∷ 8 ∷ 9 ∷ []
 
--- neither corner 1 nor corner 9 is listed; corner 6 is at (0,0), corner 0 at (1,1), and (2,1) is the hole
+-- neither corner 1 nor corner 9 is listed; corner 6 is at (0,0), corner 0 at (1,1), and (2,1), which holds none, has nothing to its right
 abbrev pub eight-of-ten : Told
-eight-of-ten = record { entries = entry 0 0 6 ∷ entry 0 1 5 ∷ entry 0 2 4 ∷ entry 1 0 7 ∷ entry 1 1 0 ∷ entry 1 2 3 ∷ entry 2 0 8 ∷ entry 2 2 2 ∷ []; gaps = 1 }
+eight-of-ten = whole (entry 0 0 6 ∷ entry 0 1 5 ∷ entry 0 2 4 ∷ entry 1 0 7 ∷ entry 1 1 0 ∷ entry 1 2 3 ∷ entry 2 0 8 ∷ entry 2 2 2 ∷ [])
 
 -- the frame of the program's example but for its tolerance and its twins: four corners of a square, axes along its sides and no spreads, two
 -- triangles
@@ -85,8 +85,8 @@ pub record Examples : Type 0 where
   pub side-run-alike : Says (one-group (0 ∷ 1 ∷ 2 ∷ 3 ∷ 1 ∷ 2 ∷ 5 ∷ 4 ∷ []) 1 1 (whole (square 0 1 2 3) ∷ []))
   -- 0 1 2 3, 0 3 4 5, 0 5 6 1: no component, even where no quads and no corners are asked for
   pub no-component : Says (one-group (0 ∷ 1 ∷ 2 ∷ 3 ∷ 0 ∷ 3 ∷ 4 ∷ 5 ∷ 0 ∷ 5 ∷ 6 ∷ 1 ∷ []) 0 0 [])
-  -- 0 1 2 3, 0 3 4 5, 0 5 6 7, 0 7 8 9: corners 1 and 9 claim one place, neither listed; 8 entries, corner 6 at (0,0), corner 0 at (1,1), one
-  -- hole. Least corners 9 drops it, 8 keeps it; least quads 5 drops it
+  -- 0 1 2 3, 0 3 4 5, 0 5 6 7, 0 7 8 9: corners 1 and 9 claim one place, neither listed; 8 entries, corner 6 at (0,0), corner 0 at (1,1);
+  -- "one hole" in document 01, and 0 by document 02, T-03. Least corners 9 drops it, 8 keeps it; least quads 5 drops it
   pub corners-1-and-9 : (L : ℕ → Pair) × (Fits quads four-round 0 L × (L 1 ≡ L 9))
   pub eight-entries : Says (one-group four-round 1 1 (eight-of-ten ∷ []))
   pub least-corners-9 : Says (one-group four-round 1 9 [])

@@ -1,20 +1,19 @@
--- The entries of a run and their rectangle: the least x is the first record's and the greatest the last one's, the height grows record by
--- record, and the holes are what the entries leave of width times height. Assumes nothing.
-use mathlib.Core.Path.{_≡_, sym, ap, _∙_}
+-- The entries of a run: its least x is the first record's, the height grows record by record, and the entries are numbered in order as the
+-- records are, each in one of the rows. Assumes nothing.
+use mathlib.Core.Path.{_≡_, refl, sym, ap, _∙_}
 use mathlib.Core.List.{List, [], _∷_, _++_}
-use Prim.Native.Nat.{ℕ, zero, suc, _+_, _*_, _-_, _≤_, _<_, max}
+use Prim.Native.Nat.{ℕ, suc, _-_, _≤_, _<_, max}
 use native.Mathlib.Decide.{ℕ-discrete}
 use native.Mathlib.Omega.{arith}
-use Rattle.cells.specs.Listed.{Sorted, Entry, Before}
-use Rattle.cells.specs.Sums.{total}
-use Rattle.cells.specs.Holes.{places, width, height, holes}
-use Rattle.cells.proofs.Rectangle.{holes-are}
+use Rattle.cells.specs.Listed.{In, Entry}
+use Rattle.cells.specs.Listed.In.{first, later}
+use Rattle.cells.specs.Holes.{height}
+use Rattle.cells.proofs.Gaps.{Numbered, in-height}
 use Rattle.fates.specs.declared.Run.{Run}
 use Rattle.walk.specs.inner.Emitted.{xIn, yIn, leastX, leastY, entriesTo, entriesOf}
 use Rattle.walk.specs.inner.Emitting.{Ascending}
 use Rattle.walk.specs.Demanded.{Place}
-use Rattle.walk.proofs.Shifted.{entryAt, none-yet, entries-more, least-le, least-met, entries-sorted}
-use Rattle.walk.proofs.Counting.{run-length}
+use Rattle.walk.proofs.Shifted.{entryAt, entries-more, least-le, least-met, entry-of, entry-in, before-at}
 
 -- ---- one entry more
 
@@ -23,13 +22,13 @@ unfolding height
 height-snoc [] e = omega arith
 height-snoc (f ∷ es) e = omega (arith, height-snoc es e)
 
-width-snoc : (es : List Entry) (e : Entry) → width (es ++ (e ∷ [])) ≡ max (width es) (suc (e .u))
-unfolding width
-width-snoc [] e = omega arith
-width-snoc (f ∷ es) e = omega (arith, width-snoc es e)
-
 pub height-more : (w : List ℕ) (a x y k : ℕ) → height (entriesTo w a x y (suc k)) ≡ max (height (entriesTo w a x y k)) (suc (yIn w a k - y))
 height-more w a x y k = ap height (entries-more w a x y k) ∙ height-snoc (entriesTo w a x y k) (entryAt w a x y k)
+
+pub height-most : (es : List Entry) (b : ℕ) → ((e : Entry) → In e es → e .v < b) → height es ≤ b
+unfolding height
+height-most [] b h = omega arith
+height-most (e ∷ es) b h = omega (arith, h e (first refl), height-most es b (λ f i. h f (later i)))
 
 module _ (w : List ℕ) (run : Run) (o : Ascending w run) where
   abbrev a : ℕ
@@ -46,7 +45,7 @@ module _ (w : List ℕ) (run : Run) (o : Ascending w run) where
   pub y-low : (k : ℕ) → k < count → leastY w run ≤ yIn w a k
   y-low k h = least-le (yIn w a) count k h
 
-  x-up : (j k : ℕ) → j < k → k < count → xIn w a j ≤ xIn w a k
+  pub x-up : (j k : ℕ) → j < k → k < count → xIn w a j ≤ xIn w a k
   x-up j k h l = omega (arith, o .rises j k h l)
 
   pub x-first : 0 < count → leastX w run ≡ xIn w a 0
@@ -59,25 +58,20 @@ module _ (w : List ℕ) (run : Run) (o : Ascending w run) where
       go : Place count (λ k. xIn w a k ≡ leastX w run) → leastX w run ≡ xIn w a 0
       go t = at (t .at) (t .small) (t .is) (ℕ-discrete (t .at) 0)
 
-  -- ---- the rectangle
+  -- ---- the entries
 
-  width-first : (x y k : ℕ) → k < count → width (entriesTo w a x y (suc k)) ≡ suc (xIn w a k - x)
-  unfolding width
-  width-first x y zero h = ap width (entries-more w a x y 0) ∙ width-snoc (entriesTo w a x y 0) (entryAt w a x y 0) ∙ rw (none-yet w a x y) (omega arith)
-  width-first x y (suc k) h = ap width (entries-more w a x y (suc k)) ∙ width-snoc (entriesTo w a x y (suc k)) (entryAt w a x y (suc k)) ∙ omega (arith, width-first x y k (omega arith), x-up k (suc k) (omega arith) h)
+  pub numbered : Numbered (entriesOf w run) (entryAt w a (leastX w run) (leastY w run)) count
+  numbered = record {
+    place = λ e i. own e i .at;
+    small = λ e i. own e i .small;
+    is = λ e i. sym (own e i .is);
+    has = λ k h. entry-in w a (leastX w run) (leastY w run) count k h;
+    rises = λ j k h l. before-at w a (leastX w run) (leastY w run) j k (o .rises j k h l) (x-low j (omega arith)) (y-low j (omega arith));
+  }
+    where
+      own : (e : Entry) → In e (entriesOf w run) → Place count (λ k. e ≡ entryAt w a (leastX w run) (leastY w run) k)
+      own e i = entry-of w a (leastX w run) (leastY w run) count e i
 
-  sorted : Sorted Before (entriesOf w run)
-  sorted = entries-sorted w a (leastX w run) (leastY w run) count (o .rises) (λ k h. (x-low k h, y-low k h))
-
-  -- of a run that is not empty
-  pub holes-run : 0 < count → suc (xIn w a (count - 1) - leastX w run) * height (entriesOf w run) ≡ holes (entriesOf w run) + count
-  holes-run h =
-      let es = entriesOf w run in
-      let e : suc (count - 1) ≡ count = omega arith in
-      let f : width es ≡ suc (xIn w a (count - 1) - leastX w run) = rw e at (width-first (leastX w run) (leastY w run) (count - 1) (omega arith)) in
-      ap (λ (k : ℕ). k * height es) (sym f) ∙ sym (holes-are es sorted) ∙ ap (λ (k : ℕ). holes es + k) (run-length w run)
-
--- of an empty one
-pub holes-none : (w : List ℕ) (run : Run) → run .count ≡ 0 → holes (entriesOf w run) ≡ 0
-unfolding entriesTo holes places total width
-holes-none w run e = rw e
+  -- each stands in one of the rows
+  pub row-small : (k : ℕ) → k < count → yIn w a k - leastY w run < height (entriesOf w run)
+  row-small k h = in-height (entry-in w a (leastX w run) (leastY w run) count k h)

@@ -2,8 +2,10 @@ pub mod Above
 pub mod Shifted
 pub mod Counting
 pub mod Runs
-pub mod Yielded
 pub mod Extent
+pub mod Yielded
+pub mod Staying
+pub mod RowWords
 pub mod Pasting
 pub mod Writing
 pub mod Determined

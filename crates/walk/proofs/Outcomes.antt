@@ -42,7 +42,7 @@ module _ {i : Input} {work : List ℕ} {span : ℕ} (e : Entered i work span) wh
     long = omega (arith, may-compute .1, computed .len)
 
     pub may-emit : Writable mid span (quadCount i)
-    may-emit = writable computed (sound .few) long
+    may-emit = writable computed (sound .few) long (may-compute .0 .whole) (may-compute .0 .few)
 
     -- the components that stand in the workspace
     abbrev out : List (List Entry)

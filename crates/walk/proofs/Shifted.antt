@@ -107,7 +107,7 @@ module _ (w : List ℕ) (a : ℕ) where
 
   -- ---- their order
 
-  before-at : (x0 y0 j k : ℕ) → keyIn w a j < keyIn w a k → x0 ≤ xIn w a j → y0 ≤ yIn w a j → Before (entryAt x0 y0 j) (entryAt x0 y0 k)
+  pub before-at : (x0 y0 j k : ℕ) → keyIn w a j < keyIn w a k → x0 ≤ xIn w a j → y0 ≤ yIn w a j → Before (entryAt x0 y0 j) (entryAt x0 y0 k)
   before-at x0 y0 j k h p q = go (decLt (xIn w a j) (xIn w a k))
     where
       go : Dec (xIn w a j < xIn w a k) → Before (entryAt x0 y0 j) (entryAt x0 y0 k)

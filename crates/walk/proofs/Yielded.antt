@@ -5,16 +5,18 @@ use mathlib.Core.Bool.{true, false≢true}
 use mathlib.Core.List.{List}
 use Prim.Native.Nat.{ℕ, zero, suc, _+_, _*_, _-_, _≤_, _<_}
 use native.Mathlib.Omega.{arith}
-use lib.IntN.{pos}
+use lib.IntN.{pos, negℤ}
 use lib.ListN.{length}
 use Rattle.mesh.specs.Lists.{mostQuads}
-use Rattle.cells.specs.Kind.{Pair, _⊕_, Lone}
+use Rattle.cells.specs.Kind.{Pair, _⊕_, Fits, Lone}
 use Rattle.cells.specs.Quads.{quads}
 use Rattle.cells.specs.Listed.{Entry, Some, Listed, Grouping, groupingBy, Components}
 use Rattle.cells.specs.Listed.Dropped.{few-cells, no-labelling, few-corners}
 use Rattle.cells.specs.Listed.Components.{start, within, dropped, kept}
-use Rattle.cells.proofs.Whole.{pair}
-use Rattle.laying.specs.inner.Layout.{label}
+use Rattle.cells.specs.Holes.{height}
+use Rattle.cells.proofs.Whole.{up-pos, sum, opp, pair}
+use Rattle.cells.proofs.Reach.{labels-near}
+use Rattle.laying.specs.inner.Layout.{centre, label}
 use Rattle.fates.specs.declared.LabelParams.{LabelParams}
 use Rattle.fates.specs.declared.Run.{Run}
 use Rattle.fates.specs.declared.Fate.{Fate}
@@ -29,6 +31,7 @@ use Rattle.walk.specs.inner.Emitting.{Ascending, Writable}
 use Rattle.walk.specs.Demanded.{Place}
 use Rattle.walk.proofs.Above.{over}
 use Rattle.walk.proofs.Shifted.{entryAt, least-le, least-met, entry-of, entry-in, entries-sorted}
+use Rattle.walk.proofs.Extent.{height-most}
 use Rattle.walk.proofs.Runs.{Held, exactly, held, ascending}
 use Rattle.walk.proofs.Counting.{run-length, joined, passed}
 use Rattle.walk.proofs.Reasons.{one-lone-count}
@@ -78,6 +81,22 @@ module _ (cells : List ℕ) (s : ℕ) (L : ℕ → Pair) (w : List ℕ) (run : R
 
       taken-v : Place m (λ k. yIn w a k ≡ y0) → Some (entriesOf w run) (λ f. f .v ≡ 0)
       taken-v t = record { entry = entryAt w a x0 y0 (t .at); among = entry-in w a x0 y0 m (t .at) (t .small); is = omega (arith, t .is) }
+
+  -- where L fits, the records' rows are few: their second words are at most n from that of 0
+  module _ (n : ℕ) (whole : length cells ≡ 4 * n) (seed : s < n) (fits : Fits quads cells s L) where
+    word-near : (k : ℕ) → k < m → (centre ≤ yIn w a k + n) × (yIn w a k ≤ centre + n)
+    word-near k l =
+        let y : ℕ = yIn w a k in
+        let near = labels-near cells n s whole seed fits (h .sound k l .reached) in
+        let e : L (cornerIn w a k) .1 ≡ label y = ap (λ (p : Pair). p .1) (words-are k l .0) in
+        let t = (rw e at near) in
+        (omega (arith, t, sum (pos y) (negℤ (pos centre)), opp (pos centre), up-pos y, up-pos centre), omega (arith, t, sum (pos y) (negℤ (pos centre)), opp (pos centre), up-pos y, up-pos centre))
+
+    few-rows : height (entriesOf w run) ≤ 2 * n + 1
+    few-rows = height-most (entriesOf w run) (2 * n + 1) (λ e i. let t = entry-of w a x0 y0 m e i in low-row e (t .at) (t .small) (t .is) (least-met (yIn w a) m (omega (arith, low (t .at) (t .small) .1, words-are (t .at) (t .small) .2))))
+      where
+        low-row : (e : Entry) (k : ℕ) → k < m → e ≡ entryAt w a x0 y0 k → Place m (λ j. yIn w a j ≡ y0) → e .v < 2 * n + 1
+        low-row e k l is t = omega (arith, ap (λ (f : Entry). f .v) is, word-near k l, word-near (t .at) (t .small), t .is)
 
 -- ---- the components, quad by quad
 
@@ -139,10 +158,14 @@ module _ {span n : ℕ} {cells : List ℕ} {params : LabelParams} {xs w : List �
 
   -- ---- what emission asks of the workspace
 
-  pub writable : Writable w span n
-  writable = record {
+  pub writable : length cells ≡ 4 * n → n ≤ span → Writable w span n
+  writable whole narrow = record {
     room = room;
     quads = few;
     few = λ s h. let r = o .indexed s h .lone in omega (arith, r .count, r .stretch .most, o .few);
     kept = λ s h e. rising s h (kept-labelled (fateAt span n w s) e);
+    past = λ s h. omega (arith, o .indexed s h .lone .at);
+    rows = λ s h e.
+        let t = kept-labelled (fateAt span n w s) e in
+        omega (arith, few-rows cells s (laid s h t .L) w (run s) (holds s h t) n whole h (laid s h t .labelling .fits));
   }

@@ -1,2 +1,3 @@
 pub mod Emitted
+pub mod Rows
 pub mod Emitting

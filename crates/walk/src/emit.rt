@@ -1,18 +1,23 @@
-// The kept groups as components and entries: what each adds to their numbers, and their words at the fronts of two lists.
+// The kept groups as components and entries: what each adds to their numbers, its holes, and their words at the fronts of two lists.
 // A caller may rely on the order of the quads: a component for each that is kept, with an entry for each of its lone records.
 ghost use mathlib.Core.Path.{_≡_};
 ghost use mathlib.Core.Bool.{true, cond};
 ghost use mathlib.Core.List.{[], _∷_};
-ghost use Prim.Native.Nat.{_+_, _*_, _-_, _≤_, _<_, min, max};
-ghost use lib.ListN.{length};
+ghost use Prim.Native.Nat.{ℕ, _+_, _*_, _-_, _≤_, _<_, min, max};
+ghost use lib.ListN.{length, getD};
+ghost use Rattle.words.specs.inner.Regions.{Kept};
+ghost use Rattle.cells.specs.Sums.{total};
 ghost use Rattle.cells.specs.Holes.{holes, height};
 ghost use Rattle.laying.specs.inner.Layout.{centre};
 ghost use Rattle.fates.specs.inner.Fates.{keyIn, cornerIn};
 ghost use Rattle.fates.specs.Judged.{isKept};
 ghost use Rattle.walk.specs.inner.Emitted.{xIn, yIn, leastX, leastY, entriesOf, outTo};
+ghost use Rattle.walk.specs.inner.Rows.{Noted, gapIn};
 ghost use Rattle.walk.specs.Call.{entryWords, allEntries};
 ghost use Rattle.walk.specs.inner.Emitting.{Ascending, Writable, pasted, Written};
 use crate::inner::Totals;
+use crate::rows::note;
+use crate::rows::rows_around;
 use fates::Fate;
 use fates::Run;
 use fates::Runs;
@@ -21,6 +26,8 @@ use fates::inner::runs_at;
 use laying::inner::labels::from_word;
 use laying::inner::layout::KEYS;
 use laying::inner::layout::SEEDS;
+use words::inner::fill_zero;
+use words::inner::wide;
 
 // The least words of a run.
 struct Least {
@@ -151,18 +158,62 @@ fn height_of(work: &[u32], run: Run, y: u32) -> u32
     high
 }
 
-// The places of the run's rectangle that none of its records has.
-fn holes_of(work: &[u32], run: Run, least: Least) -> u32
+// The run's records noted in the words of their rows, which stand at the front of the workspace and are 0 before.
+fn note_rows(work: &mut [u32], run: Run, y: u32)
     requires { ⌜ Ascending (now work) run ⌝ }
-    requires { ⌜ (least .x ≡ leastX (now work) run) × (least .y ≡ leastY (now work) run) ⌝ }
-    ensures { λ r. ⌜ r ≡ holes (entriesOf (now (work .entry)) run) ⌝ }
+    requires { ⌜ (y ≡ leastY (now work) run) × (height (entriesOf (now work) run) ≤ run .at) ⌝ }
+    requires { ⌜ ((v : ℕ) → v < height (entriesOf (now work) run) → getD (now work) v 0 ≡ 0) ⌝ }
+    ensures { λ _. ⌜ Noted (now (work .entry)) (now (work .exit)) run (run .count) ⌝ }
 {
-    if run.count == 0 {
+    let mut k = 0;
+    while k < run.count {
+        let row = wide(shifted(y_of(work, run.at, k), y));
+        note(work, row, x_of(work, run.at, k));
+        k += 1;
+    }
+}
+
+// The holes between record k and the next, by the words of the rows: none where these two are not of one column.
+fn gap_after(work: &[u32], run: Run, y: u32, k: usize) -> u32
+    requires { ⌜ Ascending (now work) run ⌝ }
+    requires { ⌜ (y ≡ leastY (now work) run) × (k + 1 < run .count) × (height (entriesOf (now work) run) ≤ run .at) ⌝ }
+    ensures { λ r. ⌜ (r ≡ gapIn (now (work .entry)) (run .at) y k) × (r ≤ 32768) ⌝ }
+{
+    let x = x_of(work, run.at, k);
+    if x_of(work, run.at, k + 1) != x {
         return 0;
     }
-    let width = shifted(x_of(work, run.at, run.count - 1), least.x) + 1;
-    let height = height_of(work, run, least.y);
-    width * height - run.count as u32
+    let from = wide(shifted(y_of(work, run.at, k), y)) + 1;
+    let to = wide(shifted(y_of(work, run.at, k + 1), y));
+    rows_around(work, from, to, x)
+}
+
+// The holes between all neighbours of the run.
+fn gaps_of(work: &[u32], run: Run, y: u32) -> u32
+    requires { ⌜ Ascending (now work) run ⌝ }
+    requires { ⌜ (y ≡ leastY (now work) run) × (height (entriesOf (now work) run) ≤ run .at) ⌝ }
+    ensures { λ r. ⌜ r ≡ total (gapIn (now (work .entry)) (run .at) y) (run .count - 1) ⌝ }
+{
+    let mut holes = 0u32;
+    let mut k = 0;
+    while k + 1 < run.count {
+        holes += gap_after(work, run, y, k);
+        k += 1;
+    }
+    holes
+}
+
+// The run's holes. The words of its rows take the front of the workspace, which is free.
+fn holes_of(work: &mut [u32], run: Run, y: u32) -> u32
+    requires { ⌜ Ascending (now work) run ⌝ }
+    requires { ⌜ (y ≡ leastY (now work) run) × (height (entriesOf (now work) run) ≤ run .at) ⌝ }
+    ensures { λ r. ⌜ r ≡ holes (entriesOf (now (work .entry)) run) ⌝ }
+    ensures { λ _. ⌜ Kept (now (work .entry)) (now (work .exit)) 0 (height (entriesOf (now (work .entry)) run)) ⌝ }
+{
+    let rows = wide(height_of(work, run, y));
+    fill_zero(&mut work[0..rows]);
+    note_rows(work, run, y);
+    gaps_of(work, run, y)
 }
 
 // Three words as a record of a list.
@@ -204,19 +255,20 @@ fn write_entries(work: &[u32], run: Run, least: Least, entries: &mut [u32], plac
 
 // A group's lone records as a component and its entries, after those that are written.
 fn write_component(
-    work: &[u32],
+    work: &mut [u32],
     runs: Runs,
     totals: Totals,
     components: &mut [u32],
     entries: &mut [u32],
 )
-    requires { ⌜ Ascending (now work) (runs .lone) ⌝ }
+    requires { ⌜ Ascending (now work) (runs .lone) × (height (entriesOf (now work) (runs .lone)) ≤ runs .lone .at) ⌝ }
     requires { ⌜ (3 * totals .components + 2 < length (now components)) × (3 * (totals .entries + runs .lone .count) ≤ length (now entries)) × (totals .entries < 4294967296) ⌝ }
     ensures { λ _. ⌜ now (components .exit) ≡ pasted (3 * totals .components) (totals .entries ∷ runs .lone .count ∷ holes (entriesOf (now (work .entry)) (runs .lone)) ∷ []) (now (components .entry)) ⌝ }
     ensures { λ _. ⌜ now (entries .exit) ≡ pasted (3 * totals .entries) (entryWords (entriesOf (now (work .entry)) (runs .lone))) (now (entries .entry)) ⌝ }
+    ensures { λ _. ⌜ Kept (now (work .entry)) (now (work .exit)) 0 (height (entriesOf (now (work .entry)) (runs .lone))) ⌝ }
 {
     let least = least_of(work, runs.lone);
-    let holes = holes_of(work, runs.lone, least);
+    let holes = holes_of(work, runs.lone, least.y);
     write_entries(work, runs.lone, least, entries, totals.entries);
     store(
         components,
@@ -229,16 +281,17 @@ fn write_component(
 
 // The same, if the group is kept.
 fn write_kept(
-    work: &[u32],
+    work: &mut [u32],
     runs: Runs,
     kept: bool,
     totals: Totals,
     components: &mut [u32],
     entries: &mut [u32],
 )
-    requires { ⌜ (kept ≡ true → Ascending (now work) (runs .lone) × (3 * totals .components + 2 < length (now components)) × (3 * (totals .entries + runs .lone .count) ≤ length (now entries)) × (totals .entries < 4294967296)) ⌝ }
+    requires { ⌜ (kept ≡ true → Ascending (now work) (runs .lone) × (height (entriesOf (now work) (runs .lone)) ≤ runs .lone .at) × (3 * totals .components + 2 < length (now components)) × (3 * (totals .entries + runs .lone .count) ≤ length (now entries)) × (totals .entries < 4294967296)) ⌝ }
     ensures { λ _. ⌜ now (components .exit) ≡ cond kept (pasted (3 * totals .components) (totals .entries ∷ runs .lone .count ∷ holes (entriesOf (now (work .entry)) (runs .lone)) ∷ []) (now (components .entry))) (now (components .entry)) ⌝ }
     ensures { λ _. ⌜ now (entries .exit) ≡ cond kept (pasted (3 * totals .entries) (entryWords (entriesOf (now (work .entry)) (runs .lone))) (now (entries .entry))) (now (entries .entry)) ⌝ }
+    ensures { λ _. ⌜ Kept (now (work .entry)) (now (work .exit)) 0 (cond kept (height (entriesOf (now (work .entry)) (runs .lone))) 0) ⌝ }
 {
     if kept {
         write_component(work, runs, totals, components, entries);
@@ -247,7 +300,7 @@ fn write_kept(
 
 // The components and their entries at the fronts of their lists.
 pub(crate) fn write_out(
-    work: &[u32],
+    work: &mut [u32],
     span: usize,
     n: usize,
     components: &mut [u32],

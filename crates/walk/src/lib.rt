@@ -13,6 +13,7 @@ use refusal::Refusal;
 mod emit;
 mod gate;
 pub mod inner;
+mod rows;
 
 // How many components and entries were written, or why none were.
 pub enum Labelled {

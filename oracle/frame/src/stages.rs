@@ -1,4 +1,6 @@
-// What every stage of a run gave, in document 01's numbers and order.
+// What every stage of a run gave, in document 01's numbers and order; the holes are document 02's.
+
+use crate::holes;
 
 /// The axis cache of one corner.
 #[derive(Clone, Copy, Debug)]
@@ -23,7 +25,7 @@ pub struct Entry {
     pub corner: u32,
 }
 
-/// The entries by u, then v, and the places of their rectangle that hold no corner.
+/// The entries by u, then v, and how many places of their rectangle are holes.
 #[derive(Clone, Debug, Default, PartialEq, Eq)]
 pub struct Component {
     pub entries: Vec<Entry>,
@@ -34,9 +36,7 @@ impl Component {
     /// Orders the entries and counts the holes. No place holds two corners.
     pub fn of(mut entries: Vec<Entry>) -> Component {
         entries.sort();
-        let wide = entries.iter().map(|e| e.u + 1).max().unwrap_or(0) as u32;
-        let high = entries.iter().map(|e| e.v + 1).max().unwrap_or(0) as u32;
-        let holes = wide * high - entries.len() as u32;
+        let holes = holes(&entries);
         Component { entries, holes }
     }
 }

@@ -1,7 +1,8 @@
-// Document 01's third demand, taken at its word and without regard to speed: groups, reached
-// quads, the one assignment that fits, lone corners. Shares nothing with the original's walk.
+// Document 01's third demand, with document 02's holes, taken at its word and without regard to
+// speed: groups, reached quads, the one assignment that fits, lone corners. Shares nothing with the
+// original's walk, nor with the count of holes beside it.
 
-use std::collections::{HashMap, HashSet};
+use std::collections::HashMap;
 
 use frame::{Component, Entry};
 
@@ -121,12 +122,16 @@ fn fitting(reached: &[Quad]) -> Option<HashMap<u32, Pair>> {
     reached.iter().all(|q| goes_round(q, &labels)).then_some(labels)
 }
 
+/// How many corners claim each pair.
+fn claims(labels: &HashMap<u32, Pair>) -> HashMap<Pair, u32> {
+    let mut claims = HashMap::new();
+    labels.values().for_each(|&pair| *claims.entry(pair).or_default() += 1);
+    claims
+}
+
 /// The lone corners, shifted so that both minima are zero.
 fn lone(labels: &HashMap<u32, Pair>) -> Vec<Entry> {
-    let mut claims: HashMap<Pair, u32> = HashMap::new();
-    for &pair in labels.values() {
-        *claims.entry(pair).or_default() += 1;
-    }
+    let claims = claims(labels);
     let alone: Vec<(u32, Pair)> =
         labels.iter().map(|(&c, &p)| (c, p)).filter(|(_, p)| claims[p] == 1).collect();
     let u0 = alone.iter().map(|(_, p)| p.0).min().unwrap_or(0);
@@ -134,16 +139,33 @@ fn lone(labels: &HashMap<u32, Pair>) -> Vec<Entry> {
     alone.iter().map(|&(corner, (u, v))| Entry { u: u - u0, v: v - v0, corner }).collect()
 }
 
-/// Entries by u, then v, and the count of places of the rectangle from (0,0) to the greatest
-/// u and v that hold no corner; 0 if there are no entries.
+/// Whether no entry stands at a place, and one does to each side of it along its row and along its
+/// column.
+fn is_hole((u, v): Pair, entries: &[Entry]) -> bool {
+    let some = |stands: &dyn Fn(&Entry) -> bool| entries.iter().any(stands);
+    !some(&|e| (e.u, e.v) == (u, v))
+        && some(&|e| e.v == v && e.u < u)
+        && some(&|e| e.v == v && u < e.u)
+        && some(&|e| e.u == u && e.v < v)
+        && some(&|e| e.u == u && v < e.v)
+}
+
+/// Entries by u, then v, and the count of holes in the rectangle from (0,0) to the greatest u and
+/// v; 0 if there are no entries.
 fn component(mut entries: Vec<Entry>) -> Component {
     entries.sort_by_key(|e| (e.u, e.v));
-    let taken: HashSet<Pair> = entries.iter().map(|e| (e.u, e.v)).collect();
     let most_u = entries.iter().map(|e| e.u).max().unwrap_or(-1);
     let most_v = entries.iter().map(|e| e.v).max().unwrap_or(-1);
     let places = (0..=most_u).flat_map(|u| (0..=most_v).map(move |v| (u, v)));
-    let holes = places.filter(|place| !taken.contains(place)).count() as u32;
+    let holes = places.filter(|&place| is_hole(place, &entries)).count() as u32;
     Component { entries, holes }
+}
+
+/// The labels of the corners that a group's lowest quad reaches, if there are any that fit.
+fn labels(quads: &[Quad], group: &[usize]) -> Option<HashMap<u32, Pair>> {
+    // Chains from the lowest quad; it stands first, being the lowest.
+    let reached = chained(quads, group[0], reaches);
+    fitting(&reached.into_iter().map(|q| quads[q]).collect::<Vec<_>>())
 }
 
 /// The fate of the group whose lowest quad this is.
@@ -151,10 +173,7 @@ fn fate(quads: &[Quad], group: &[usize], least_quads: u32, least_corners: u32) -
     if group.len() < least_quads as usize {
         return Fate::TooFewQuads;
     }
-    // Chains from the lowest quad; it stands first, being the lowest.
-    let reached: Vec<Quad> =
-        chained(quads, group[0], reaches).into_iter().map(|q| quads[q]).collect();
-    let Some(labels) = fitting(&reached) else {
+    let Some(labels) = labels(quads, group) else {
         return Fate::NoLabelling;
     };
     let entries = lone(&labels);
@@ -191,4 +210,17 @@ pub fn components(fates: &[Fate]) -> Vec<Component> {
         _ => None,
     };
     fates.iter().filter_map(kept).collect()
+}
+
+/// The pairs of a kept group that several corners claim, by the shift that puts its entries where
+/// they are. Empty where nothing is listed.
+pub fn contested(quads: &[Quad], group: &[usize]) -> Vec<(i32, i32)> {
+    let labels = labels(quads, group).unwrap_or_default();
+    let entries = lone(&labels);
+    let Some(first) = entries.first() else {
+        return Vec::new();
+    };
+    let shift = minus((first.u, first.v), labels[&first.corner]);
+    let several = claims(&labels).into_iter().filter(|(_, corners)| *corners > 1);
+    several.map(|(pair, _)| plus(pair, shift)).collect()
 }

@@ -1,8 +1,10 @@
-// The example frames: document 01's square, a noisy grid of 5 by 5 corners, a grid with a hole.
+// The example frames: document 01's square, a noisy grid of 5 by 5 corners, a grid with a hole, an
+// L-shaped sheet.
 
 use crate::stages::Build;
 use crate::text::{answer, write};
-use crate::vectors::frames::{holed, noisy};
+use crate::vectors::frames::{holed, noisy, planned};
+use crate::vectors::hole_shapes::named;
 use std::path::Path;
 use std::{fs, io};
 
@@ -21,8 +23,13 @@ T 0 2 3 2 - -
 const SEED: u64 = 2;
 
 /// Each with its name.
-pub fn examples() -> [(&'static str, String); 3] {
-    [("square", SQUARE.to_string()), ("noisy", write(&noisy(SEED))), ("hole", write(&holed()))]
+pub fn examples() -> [(&'static str, String); 4] {
+    [
+        ("square", SQUARE.to_string()),
+        ("noisy", write(&noisy(SEED))),
+        ("hole", write(&holed())),
+        ("l-shape", write(&planned(&named("L")))),
+    ]
 }
 
 /// Writes each text into a folder under its name, and its answer beside it as NAME.answer.

@@ -6,6 +6,7 @@ use std::collections::HashSet;
 
 use crate::calls::{answer_frame, judge_frame};
 use crate::compare::{frame_of, give_rule};
+use crate::generate::cuts::{cuts, large_cuts};
 use crate::generate::{damage::damage, torus, KINDS};
 use crate::judge::{judge, Refusal, MOST_CORNERS, MOST_HALF_EDGES};
 use crate::near::{scope, Scope};
@@ -14,7 +15,7 @@ use crate::told::Told;
 use crate::vectors::frames::{lend, Case};
 use frame::{Component, Frame, Stages, NONE};
 
-/// A frame of a run, with the name of its kind, "damaged" among them.
+/// A frame of a run, with the name of its kind, "damaged" and "cut" among them.
 #[derive(Clone, Debug)]
 pub struct Drawn {
     pub kind: &'static str,
@@ -57,6 +58,9 @@ const FULL: usize = 500;
 /// Of those one in so many is damaged.
 const FULL_DAMAGED: usize = 10;
 
+/// One in so many is of sheets with parts cut out, and one in `FULL` is a large one of those.
+const CUT: usize = 6;
+
 /// A grid that is closed both ways and has as many corners and half-edges as there may be, each
 /// corner moved by up to a drawn reach.
 fn full(random: &mut Random) -> (&'static str, Frame) {
@@ -73,17 +77,29 @@ fn full(random: &mut Random) -> (&'static str, Frame) {
 }
 
 /// Frame number `number` of a run: all kinds in turn, of many sizes, the last of each turn damaged,
-/// at times a full one; a third by rule 2 of spreads, at times a number that is no rule;
-/// workspace and room mostly enough, at times short.
+/// at times a full one, now and then sheets with parts cut out; a third by rule 2 of spreads, at
+/// times a number that is no rule; workspace and room mostly enough, at times short.
 pub fn drawn(seed: u64, number: usize) -> Drawn {
     let mut random = Random::part(!seed, number as u64);
-    let (kind, frame) = if number % FULL == FULL - 1 {
-        let (kind, mut frame) = full(&mut random);
-        give_rule(&mut frame, seed, number);
-        (kind, frame)
+    let own = if number % FULL == FULL - 1 {
+        Some(full(&mut random))
+    } else if number % FULL == FULL / 2 - 1 {
+        Some(("cut", large_cuts(&mut random)))
+    } else if number % CUT == CUT / 2 {
+        let corners = random.pick(&[60, 120, 120, 400]);
+        Some(("cut", cuts(corners, &mut random)))
     } else {
-        let (place, frame, _) = frame_of(seed, number);
-        (KINDS.get(place).map_or("damaged", |kind| kind.0), frame)
+        None
+    };
+    let (kind, frame) = match own {
+        Some((kind, mut frame)) => {
+            give_rule(&mut frame, seed, number);
+            (kind, frame)
+        }
+        None => {
+            let (place, frame, _) = frame_of(seed, number);
+            (KINDS.get(place).map_or("damaged", |kind| kind.0), frame)
+        }
     };
     Drawn { kind, case: lend(frame, &mut random) }
 }

@@ -10,6 +10,7 @@ pub mod gap;
 pub mod generate;
 pub mod judge;
 pub mod near;
+pub mod places;
 pub mod quads_text;
 pub mod random;
 pub mod stages;

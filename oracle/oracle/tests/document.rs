@@ -101,12 +101,13 @@ fn three_round_a_corner() {
     assert_eq!(label("0 1 2 3\n0 3 4 5\n0 5 6 1\n", 0, 0), "components 0\n");
 }
 
+/// Document 01's list. By document 02 the place has nothing to its right and is no hole.
 #[test]
 fn a_place_claimed_twice() {
     let quads = "0 1 2 3\n0 3 4 5\n0 5 6 7\n0 7 8 9\n";
     let kept = label(quads, 4, 8);
     let lines: Vec<&str> = kept.lines().collect();
-    assert_eq!(lines[..2], ["components 1", "component 0 8 1"]);
+    assert_eq!(lines[..2], ["components 1", "component 0 8 0"]);
     assert!(lines.contains(&"0 0 6") && lines.contains(&"1 1 0"));
     let listed = |corner: &str| lines[2..].iter().any(|l| l.split(' ').nth(2) == Some(corner));
     assert!(!listed("1") && !listed("9"));

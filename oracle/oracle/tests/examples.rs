@@ -15,7 +15,7 @@ fn what_they_show() {
             said.lines().take(2).collect::<Vec<_>>().join(", ")
         })
         .collect();
-    let shown = ["component 0 4 0", "component 0 25 0", "component 0 24 1"];
+    let shown = ["component 0 4 0", "component 0 25 0", "component 0 24 1", "component 0 18 0"];
     assert_eq!(heads, shown.map(|component| format!("components 1, {component}")));
     for (name, text) in examples() {
         let [plain, ruled] = [Build::Plain, Build::Ruled].map(|b| answer(text.as_bytes(), b));

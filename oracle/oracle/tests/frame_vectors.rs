@@ -12,7 +12,7 @@ use common::files::{parts, read_back};
 use common::labelled::{as_wanted, words_of};
 use common::rules::{check_words, told_apart};
 use oracle::judge::Refusal;
-use oracle::vectors::frames::{frame_cases, rule_cases, write_frames, Case, Summary};
+use oracle::vectors::frames::{frame_cases, hole_cases, rule_cases, write_frames, Case, Summary};
 use oracle::vectors::{Summed, Vector};
 use oracle::words;
 
@@ -25,7 +25,13 @@ fn every_row() {
     assert!(summary.accepted.iter().all(|&count| count >= 15));
     assert!(summary.quads[0] >= 2_000 && summary.quads[1..].iter().all(|&count| count >= 100));
     assert!(summary.fates.iter().all(|&count| count >= 5));
-    assert!(summary.components[0] >= 2 && summary.components[1] >= 40);
+    assert!(summary.components[0] >= 2);
+}
+
+#[test]
+fn every_sort_of_hole() {
+    let [empty, holed, all] = Summary::of(&hole_cases()).components;
+    assert!(empty >= 3 && holed >= 30 && all - holed >= 40, "{empty} {holed} {all}");
 }
 
 /// The cases by a spread rule.
@@ -49,7 +55,8 @@ fn the_rules_part() {
 /// What the arrays of the program that replays the cases must hold.
 #[test]
 fn longest_lists() {
-    let all: Vec<Case> = frame_cases().into_iter().chain(inner_cases()).collect();
+    let all: Vec<Case> =
+        frame_cases().into_iter().chain(inner_cases()).chain(hole_cases()).collect();
     let longest = Summary::of(&all).longest;
     assert_eq!(longest[..7], [4_097, 4_097, 8_194, 8_194, 8_194, 24_579, 24_579]);
     assert!(longest[7] <= 65_700 && longest[8] <= 12_300 && longest[9] <= 49_164);
@@ -75,7 +82,7 @@ fn as_the_words_say(case: &Case) {
 
 #[test]
 fn words_beside_the_ruled_build() {
-    frame_cases().iter().chain(&inner_cases()).for_each(as_the_words_say);
+    frame_cases().iter().chain(&inner_cases()).chain(&hole_cases()).for_each(as_the_words_say);
 }
 
 #[test]
@@ -131,9 +138,13 @@ fn check_line(line: &str, case: &Case) {
 
 #[test]
 fn files() {
-    let (cases, by_rule) = (frame_cases(), rule_cases());
+    let (cases, by_rule, holes) = (frame_cases(), rule_cases(), hole_cases());
     let (lines, answer_lines) = read_back("frame", write_frames);
-    assert_eq!(answer_lines, 4 * (cases.len() + by_rule.len()));
-    lines.iter().zip(&cases).for_each(|(line, case)| check_line(line, case));
-    check_words(&lines[cases.len()..], &by_rule, |word| word + 3);
+    assert_eq!(answer_lines, 4 * lines.len());
+    let (first, rest) = lines.split_at(cases.len());
+    let (second, last) = rest.split_at(by_rule.len());
+    first.iter().zip(&cases).for_each(|(line, case)| check_line(line, case));
+    check_words(second, &by_rule, |word| word + 3);
+    assert_eq!(last.len(), holes.len());
+    last.iter().zip(&holes).for_each(|(line, case)| check_line(line, case));
 }

@@ -3,6 +3,7 @@
 use oracle::compare::first_difference;
 use oracle::frames::{drawn, expected, full_twins, Between};
 use oracle::judge::judge;
+use oracle::places::Places;
 use oracle::vectors::Vector;
 use std::collections::BTreeMap;
 
@@ -40,10 +41,20 @@ fn what_is_expected() {
             assert_eq!(between, unchanged.between);
         }
     }
-    assert_eq!(kinds.len(), 17);
+    assert_eq!(kinds.len(), 18);
     assert_eq!(most, [4_096, 24_576]);
     assert!(rows.keys().copied().eq((1..=12).chain([18])), "{rows:?}");
     assert!(marks.iter().all(|&count| count > 100), "{marks:?}");
+}
+
+/// Many components have holes, and each of the four questions refuses places that no other does.
+#[test]
+fn holes() {
+    let mut places = Places::default();
+    (0..1_500).for_each(|number| places.add_told(&drawn(7, number).case.answer()));
+    println!("{places}");
+    assert!(places.holed >= 80 && places.holes >= 300, "{places}");
+    assert!(places.alone.iter().all(|&count| count >= 100), "{places}");
 }
 
 /// A third is by rule 2, of which many have another answer by rule 1; a few are by no rule, and the

@@ -1,11 +1,13 @@
 // Mistakes in the labelling: each gives another answer to some of the label vectors.
 
 mod common {
+    pub mod holes;
     pub mod mistakes;
 }
 
+use common::holes::{self, Sheet};
 use common::mistakes::{each_is_told, Mistake};
-use oracle::vectors::labels::{label_cases, Case};
+use oracle::vectors::labels::{hole_cases, label_cases, Case};
 use oracle::vectors::{OverQuads, Vector};
 use std::collections::{BTreeMap, HashMap};
 
@@ -32,7 +34,8 @@ struct Rules {
     /// Minima over all reached corners and not the lone ones.
     shift_all: bool,
     key: fn(&(Pair, u32)) -> (i32, i32, u32),
-    holes: fn(i32, i32, usize, usize) -> i32,
+    /// The holes of a component (tests/hole_mistakes.rs has more that can be got wrong in them).
+    holes: fn(Sheet) -> u32,
     keep_empty: bool,
     before: bool,
 }
@@ -61,7 +64,7 @@ const RIGHT: Rules = Rules {
     enough: |count, least| count >= least as usize,
     shift_all: false,
     key: |&((u, v), corner)| (u, v, corner),
-    holes: |wide, high, lone, _| wide * high - lone as i32,
+    holes: |sheet| holes::RIGHT.answer(&[sheet])[0],
     keep_empty: true,
     before: true,
 };
@@ -156,10 +159,13 @@ impl Rules {
             if self.shift_all { labels.values().copied().collect() } else { shown };
         let lowest = |of: fn(&Pair) -> i32| over.iter().map(of).min().unwrap_or(0);
         let (u0, v0) = (lowest(|p| p.0), lowest(|p| p.1));
-        lone.iter_mut().for_each(|(pair, _)| *pair = (pair.0 - u0, pair.1 - v0));
+        let shifted = |pair: &Pair| (pair.0 - u0, pair.1 - v0);
+        lone.iter_mut().for_each(|(pair, _)| *pair = shifted(pair));
         lone.sort_by_key(self.key);
-        let most = |of: fn(&Pair) -> i32| lone.iter().map(|(p, _)| of(p) + 1).max().unwrap_or(0);
-        let holes = (self.holes)(most(|p| p.0), most(|p| p.1), lone.len(), labels.len()) as u32;
+        let listed = lone.iter().map(|&(pair, _)| pair).collect();
+        let several = claims.iter().filter(|(_, corners)| corners.len() > 1);
+        let contested = several.map(|(pair, _)| shifted(pair)).collect();
+        let holes = (self.holes)(Sheet { listed, contested });
         Some((lone.iter().map(|&((u, v), c)| [u as u32, v as u32, c]).collect(), holes))
     }
 
@@ -187,7 +193,8 @@ impl Rules {
 /// Cases that the call answers, with the answers; the largest would take too long.
 fn accepted() -> Vec<(Case, [Vec<u32>; 2])> {
     let mut found = Vec::new();
-    for case in label_cases().into_iter().filter(|case| case.quads.len() < 4_000) {
+    let cases = label_cases().into_iter().chain(hole_cases());
+    for case in cases.filter(|case| case.quads.len() < 4_000) {
         let told = case.answer();
         if let Ok([k, l]) = told.result {
             let [_, components, entries] = told.lists;
@@ -216,11 +223,17 @@ const MISTAKES: [Mistake<Rules>; 22] = [
     ("a shift by all reached corners", |r| r.shift_all = true),
     ("entries by v, then u", |r| r.key = |&((u, v), corner)| (v, u, corner)),
     ("entries by corner", |r| r.key = |&(_, corner)| (corner as i32, 0, 0)),
-    ("a rectangle one too wide", |r| {
-        r.holes = |wide, high, lone, _| (wide + 1) * high - lone as i32
+    ("every place without a corner a hole", |r| {
+        r.holes = |sheet| {
+            let (u, v) = sheet.most();
+            ((u + 1) * (v + 1)) as u32 - sheet.listed.len() as u32
+        }
     }),
     ("pairs claimed twice are no holes", |r| {
-        r.holes = |wide, high, _, reached| (wide * high - reached as i32).max(0)
+        r.holes = |Sheet { listed, contested }| {
+            let all = Sheet { listed: [listed, contested].concat(), contested: Vec::new() };
+            holes::RIGHT.answer(&[all])[0]
+        }
     }),
     ("empty components dropped", |r| r.keep_empty = false),
     ("components counted for the entries before", |r| r.before = false),

@@ -13,7 +13,9 @@ use common::files::{parts, read_back};
 use common::labelled::{as_wanted, words_of};
 use common::over::over;
 use oracle::demand::{components, fates};
-use oracle::vectors::labels::{label_cases, write_labels, Case, Summary};
+use oracle::places::Places;
+use oracle::random::Random;
+use oracle::vectors::labels::{any_case, hole_cases, label_cases, write_labels, Case, Summary};
 use oracle::vectors::{OverQuads, Summed, Vector};
 
 #[test]
@@ -23,14 +25,24 @@ fn every_row() {
     assert_eq!(counts.rows(), [1, 2, 5, 6, 8, 9, 10]);
     assert!(counts.cases >= 2_000 && counts.refused.values().all(|&count| count >= 10));
     assert!(summary.fates.iter().all(|&count| count >= 50));
-    assert!(summary.components[..2].iter().all(|&count| count >= 20));
+    assert!(summary.components[0] >= 20);
     assert_eq!(summary.most.0, [4_096, 4_096, 48 * 4_096]);
+}
+
+#[test]
+fn every_sort_of_hole() {
+    let [empty, holed, all] = Summary::of(&hole_cases()).components;
+    assert!(empty >= 3 && holed >= 80 && all - holed >= 100, "{empty} {holed} {all}");
+}
+
+fn all_cases() -> Vec<Case> {
+    label_cases().into_iter().chain(hole_cases()).collect()
 }
 
 /// What the arrays of the program that replays the cases must hold.
 #[test]
 fn longest_lists() {
-    let most = |list: fn(&Case) -> usize| label_cases().iter().map(list).max().unwrap();
+    let most = |list: fn(&Case) -> usize| all_cases().iter().map(list).max().unwrap();
     assert!(most(|case| case.quads.len()) <= 16_392);
     assert!(most(|case| case.work.len()) <= 196_656);
     assert!(most(|case| case.components.len()) <= 12_300);
@@ -48,7 +60,7 @@ fn as_the_demand_says(case: &Case) {
 
 #[test]
 fn demand_beside_the_walk() {
-    label_cases().iter().for_each(as_the_demand_says);
+    all_cases().iter().for_each(as_the_demand_says);
 }
 
 #[test]
@@ -71,6 +83,19 @@ fn just_accepted_and_just_refused() {
     assert!((1..4).all(|over| either_side(&cases, 1, |case| case.quads.len() % 4 == over).1 > 0));
 }
 
+/// Lists for long comparisons: many components have holes, and each of the four questions refuses
+/// places that no other does.
+#[test]
+fn holes_of_drawn_lists() {
+    let mut places = Places::default();
+    for number in 0..2_000 {
+        places.add_told(&any_case(&mut Random::part(1, number)).answer());
+    }
+    println!("{places}");
+    assert!(places.holed >= 100 && places.holes >= 300, "{places}");
+    assert!(places.alone.iter().all(|&count| count >= 150), "{places}");
+}
+
 /// A line of a data file says its case again.
 fn check_line(line: &str, case: &Case) {
     let (numbers, [quads, work, components, entries]) = parts(line);
@@ -82,7 +107,7 @@ fn check_line(line: &str, case: &Case) {
 
 #[test]
 fn files() {
-    let cases = label_cases();
+    let cases = all_cases();
     let (lines, answer_lines) = read_back("label", write_labels);
     assert_eq!((lines.len(), answer_lines), (cases.len(), 4 * cases.len()));
     lines.iter().zip(&cases).for_each(|(line, case)| check_line(line, case));

@@ -1,6 +1,7 @@
 // Generated frames, by kind. The same kind, size and generator state give the same frame.
 
 pub mod bad_text;
+pub mod cuts;
 pub mod damage;
 mod degenerate;
 mod extreme;
@@ -10,6 +11,7 @@ mod grids;
 mod hubs;
 pub mod link;
 pub mod patterns;
+pub mod plans;
 pub mod quad_lists;
 mod rosettes;
 mod scatter;

@@ -127,7 +127,7 @@ fn loose(random: &mut Random) -> Vec<[u32; 4]> {
 }
 
 /// Turns quads to start elsewhere, runs a few the other way, and reorders the list.
-fn disguise(quads: &mut [[u32; 4]], random: &mut Random) {
+pub fn disguise(quads: &mut [[u32; 4]], random: &mut Random) {
     let reversed = random.pick(&[0, 0, 5, 30]);
     for quad in quads.iter_mut() {
         quad.rotate_left(random.below(4));

@@ -10,6 +10,7 @@ pub mod filters;
 mod form;
 mod frame_rows;
 pub mod frames;
+pub mod hole_shapes;
 pub mod labels;
 mod meshes;
 mod over_quads;

@@ -32,10 +32,22 @@ pub fn files(kind: &str, cases: impl Iterator<Item = (Vec<u8>, String)>) -> Vec<
     files
 }
 
+/// What the names of the files about holes begin with, whatever the call.
+pub const HOLES: &str = "holes";
+
+/// A case as a file has it, with its answer.
+fn packed<C: Vector>(case: &C) -> (Vec<u8>, String) {
+    (text(&case.words()).into_bytes(), case.answer().lines())
+}
+
+/// The files of cases, whose names begin with this and not with the cases' kind.
+pub fn pack_as<C: Vector>(name: &str, cases: &[C]) -> Vec<File> {
+    files(name, cases.iter().map(packed))
+}
+
 /// The files of the cases of one kind.
 fn files_of<C: Vector>(kind: &str, cases: &[C]) -> Vec<File> {
-    let own = cases.iter().filter(|case| case.kind() == kind);
-    files(kind, own.map(|case| (text(&case.words()).into_bytes(), case.answer().lines())))
+    files(kind, cases.iter().filter(|case| case.kind() == kind).map(packed))
 }
 
 /// The files of all cases, the kinds in the order in which they first come.
@@ -102,14 +114,17 @@ pub fn with_rules<C: Spreads, S: Summed<C>>(
     (files, WithRules { without: S::of(cases), by_rule: S::of(&inner) })
 }
 
-/// Writes all cases into a folder, those by a spread rule behind the others.
-pub fn write_with_rules<C: Spreads, S: Summed<C>>(
-    folder: &Path,
-    cases: &[C],
-    by_rule: &[ByRule<C>],
-) -> io::Result<Written<WithRules<S>>> {
-    let (files, summary) = with_rules(cases, by_rule);
-    Ok(Written { files: write(folder, &files)?, summary })
+/// What cases hold, and what those about holes do.
+pub struct WithHoles<S, H> {
+    pub without: S,
+    pub holes: H,
+}
+
+impl<S: fmt::Display, H: fmt::Display> fmt::Display for WithHoles<S, H> {
+    fn fmt(&self, f: &mut fmt::Formatter<'_>) -> fmt::Result {
+        self.without.fmt(f)?;
+        write!(f, "about holes:\n{}", self.holes)
+    }
 }
 
 /// Writes all cases into a folder and says what was written.

@@ -1,76 +1,60 @@
--- `holes_of`: width times height, less the records; both are at most 32,768, so the product fits.
-use mathlib.Core.Path.{_≡_, sym, ap₂, _∙_}
-use Prim.Native.Nat.{suc, _+_, _*_, _-_, _≤_}
-use native.Mathlib.Nat.{mul-le-mul}
+-- `holes_of`: the front is cleared for the run's rows, these are noted there, and what they tell from neighbour to neighbour is counted.
+use mathlib.Core.Path.{_≡_, ap, _∙_, subst}
+use Prim.Native.Nat.{ℕ, _-_}
 use native.Mathlib.Omega.{arith}
 use borrow.Author.Needs.{needs}
-use Rattle.cells.specs.Holes.{holes}
-use Rattle.walk.specs.inner.Emitted.{xIn, leastX, entriesOf}
-use Rattle.walk.proofs.Extent.{x-low, holes-run, holes-none}
+use borrow.Rule.Slice.PartMut.{putMid}
+use Rattle.words.specs.inner.Regions.{Filled}
+use Rattle.cells.specs.Holes.{height}
+use Rattle.walk.specs.inner.Emitted.{entriesOf}
+use Rattle.walk.proofs.RowWords.{front-cleared, may-note, may-count, all-kept, holes-counted}
 use Rattle.walk.proofs.emit.holes_of.Statement.{statement}
 use Rattle.walk.proofs.emit.holes_of.Tie as tie
-
--- the width is at most 32,768
-wide : (c : tie.After-shifted) → c .shifted .result + 1 ≤ 32768
-wide c =
-    let s = c .before .before .before .before .before .before in
-    omega (arith, c .shifted .ensures, c .before .x-of .ensures, s .pre .0 .keys (s .args .run .count - 1) (omega arith))
-
--- and times the height it is the holes and the records
-product : (c : tie.After-height-of) → (c .before .shifted .result + 1) * c .height-of .result ≡ holes (entriesOf (c .before .before .before .before .before .before .before .args .work .now) (c .before .before .before .before .before .before .before .args .run)) + c .before .before .before .before .before .before .before .args .run .count
-product c =
-    let s = c .before .before .before .before .before .before .before in
-    let z = s .args in
-    let width : c .before .shifted .result + 1 ≡ suc (xIn (z .work .now) (z .run .at) (z .run .count - 1) - leastX (z .work .now) (z .run)) = omega (arith, c .before .shifted .ensures, c .before .before .x-of .ensures, s .pre .1 .0) in
-    ap₂ _*_ width (c .height-of .ensures .0) ∙ holes-run (z .work .now) (z .run) (s .pre .0) (omega arith)
-
-returns : tie.Need-returns
-returns c = sym (holes-none _ _ (c .if1 .taken))
-
-sub-x-of : tie.Need-sub-x-of
-sub-x-of c = search needs
-
-x-of-requires : tie.Need-x-of-requires
-x-of-requires c κs = search needs
-
-shifted-requires : tie.Need-shifted-requires
-shifted-requires c κs =
-    let s = c .before .before .before .before .before in
-    let z = s .args in
-    let at = z .run .count - 1 in
-    let l = x-low (z .work .now) (z .run) (s .pre .0) at (omega arith) in
-    let k = s .pre .0 .keys at (omega arith) in
-    (omega (arith, c .x-of .ensures, s .pre .1 .0), omega (arith, c .x-of .ensures))
-
-add-width : tie.Need-add-width
-add-width c = omega (arith, wide c)
 
 height-of-requires : tie.Need-height-of-requires
 height-of-requires c κs = search needs
 
-mul-result : tie.Need-mul-result
-mul-result c = let h = mul-le-mul (wide (c .before)) (c .height-of .ensures .1) in omega (arith, h)
+wide-requires : tie.Need-wide-requires
+wide-requires c κs = search needs
 
-cast-result : tie.Need-cast-result
-cast-result c = search needs
+sub-fill-zero : tie.Need-sub-fill-zero
+sub-fill-zero c = search needs
 
-sub-result : tie.Need-sub-result
-sub-result c = omega (arith, product (c .before))
+part-fill-zero-start : tie.Need-part-fill-zero-start
+part-fill-zero-start c = search needs
 
-returns-2 : tie.Need-returns-2
-returns-2 c = omega (arith, product (c .before))
+part-fill-zero-end : tie.Need-part-fill-zero-end
+part-fill-zero-end c = search needs
+
+fill-zero-requires : tie.Need-fill-zero-requires
+fill-zero-requires c κs = search needs
+
+-- the front is cleared
+cleared : (c : tie.After-fill-zero) → Filled (c .before .before .before .before .before .before .args .work .now) (putMid 0 (c .before .before .wide .result - 0) (c .before .before .before .before .before .before .args .work .now) (c .fill-zero .last .0)) 0 (height (entriesOf (c .before .before .before .before .before .before .args .work .now) (c .before .before .before .before .before .before .args .run))) (height (entriesOf (c .before .before .before .before .before .before .args .work .now) (c .before .before .before .before .before .before .args .run))) (λ (k : ℕ). 0)
+cleared c =
+    let s = c .before .before .before .before .before .before in
+    let rows : c .before .before .wide .result ≡ height (entriesOf (s .args .work .now) (s .args .run)) = c .before .before .wide .ensures ∙ c .before .before .before .height-of .ensures .0 in
+    subst (λ (m : ℕ). Filled (s .args .work .now) (putMid 0 (c .before .before .wide .result - 0) (s .args .work .now) (c .fill-zero .last .0)) 0 m m (λ (k : ℕ). 0)) rows
+    (front-cleared (s .args .work .now) (c .fill-zero .last .0) (c .before .before .wide .result) (omega (arith, s .pre .1 .1, s .pre .0 .room)) (c .fill-zero .ensures))
+
+note-rows-requires : tie.Need-note-rows-requires
+note-rows-requires c κs =
+    let s = c .before .before .before .before .before .before .before .before .before in
+    may-note (s .pre .0) (s .pre .1 .0) (s .pre .1 .1) (cleared (c .before .before .before))
+
+gaps-of-requires : tie.Need-gaps-of-requires
+gaps-of-requires c κs =
+    let s = c .before .before .before .before .before .before .before .before .before .before .before .before .before in
+    may-count (s .pre .0) (s .pre .1 .0) (s .pre .1 .1) (cleared (c .before .before .before .before .before .before .before)) (c .before .before .before .note-rows .ensures)
+
+same-length : tie.Need-same-length
+same-length c = search needs
+
+returns : tie.Need-returns
+returns c =
+    let s = c .before .before .before .before .before .before .before .before .before .before .before .before .before .before in
+    let f = cleared (c .before .before .before .before .before .before .before .before) in
+    (c .gaps-of .ensures ∙ holes-counted (s .pre .0) (s .pre .1 .0) (s .pre .1 .1) f (c .before .before .before .before .note-rows .ensures), all-kept (s .pre .0) (s .pre .1 .0) (s .pre .1 .1) f (c .before .before .before .before .note-rows .ensures))
 
 pub holes-of-spec : {M : Type 1} → statement M
-holes-of-spec =
-    tie.close
-    (tie.spec
-    returns
-    sub-x-of
-    x-of-requires
-    shifted-requires
-    add-width
-    height-of-requires
-    mul-result
-    cast-result
-    sub-result
-    returns-2)
+holes-of-spec = tie.close (tie.spec height-of-requires wide-requires sub-fill-zero part-fill-zero-start part-fill-zero-end fill-zero-requires note-rows-requires gaps-of-requires same-length returns)

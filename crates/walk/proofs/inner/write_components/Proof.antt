@@ -1,6 +1,8 @@
 -- `write_components`: the rooms for what would be written, then the components and their entries.
-use Prim.Native.Nat.{_<_}
+use mathlib.Core.Path.{ap, _∙_}
+use Prim.Native.Nat.{ℕ, _<_}
 use native.Mathlib.Omega.{arith}
+use lib.ListN.{replicate}
 use Rattle.walk.proofs.Rooms.{few, may-write, short, short-entries, done}
 use borrow.Author.Needs.{needs}
 use Rattle.walk.proofs.inner.write_components.Statement.{statement}
@@ -41,10 +43,10 @@ fill-zero-requires-3 : tie.Need-fill-zero-requires-3
 fill-zero-requires-3 c κs = search needs
 
 cast-t29 : tie.Need-cast-t29
-cast-t29 c = omega (arith, words (c .before .before .before .before .before .before .before .before .before .before .before .before .before .before .before .before .before .before .before .before))
+cast-t29 c = omega (arith, words (c .before .before .before .before .before .before .before .before .before .before .before .before .before .before .before .before .before .before .before .before .before .before))
 
 cast-t30 : tie.Need-cast-t30
-cast-t30 c = omega (arith, words (c .before .before .before .before .before .before .before .before .before .before .before .before .before .before .before .before .before .before .before .before .before))
+cast-t30 c = omega (arith, words (c .before .before .before .before .before .before .before .before .before .before .before .before .before .before .before .before .before .before .before .before .before .before .before))
 
 same-length-3 : tie.Need-same-length-3
 same-length-3 c = search needs
@@ -56,7 +58,10 @@ same-length-5 : tie.Need-same-length-5
 same-length-5 c = search needs
 
 returns-3 : tie.Need-returns-3
-returns-3 c = done (c .before .before .before .before .before .before .before .before .before .before .before .before .before .before .before .before .before .before .before .before .before .pre .1) _ _ _ _ (c .before .before .before .before .fill-zero3 .ensures) _ _ (c .before .before .before .before .before .before .before .before .before .before .before .before .before .before .before .before .if1 .left) (c .before .before .before .before .before .before .before .before .before .before .before .before .before .before .if2 .left) (c .before .before .before .before .before .before .before .before .before .before .write-out .ensures)
+returns-3 c =
+    let s = c .before .before .before .before .before .before .before .before .before .before .before .before .before .before .before .before .before .before .before .before .before .before .before in
+    let zeroed = c .before .before .before .before .fill-zero3 .ensures ∙ ap (λ (n : ℕ). replicate n 0) (c .before .before .before .before .before .before .before .before .before .before .before .work3 .given) in
+    done (s .pre .1) _ _ _ _ zeroed _ _ (c .before .before .before .before .before .before .before .before .before .before .before .before .before .before .before .before .before .before .if1 .left) (c .before .before .before .before .before .before .before .before .before .before .before .before .before .before .before .before .if2 .left) (c .before .before .before .before .before .before .before .before .before .before .before .before .write-out .ensures)
 
 pub write-components-spec : {M : Type 1} → statement M
 write-components-spec = tie.close (tie.spec fill-zero-requires cast-t13 same-length returns fill-zero-requires-2 cast-t18 same-length-2 returns-2 write-out-requires fill-zero-requires-3 cast-t29 cast-t30 same-length-3 same-length-4 same-length-5 returns-3)

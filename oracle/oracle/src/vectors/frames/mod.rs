@@ -3,6 +3,7 @@
 mod case;
 mod drawn;
 mod full;
+mod holes;
 mod lend;
 mod lengths;
 mod order;
@@ -15,15 +16,16 @@ mod summary;
 mod work;
 
 pub use case::Case;
+pub(super) use holes::text_frames as hole_frames;
 pub use lend::lend;
 pub(super) use order::twins as twin_orders;
 pub(super) use rules::frames as rule_frames;
-pub use shapes::{holed, noisy, square_grid};
+pub use shapes::{holed, noisy, planned, square_grid};
 pub use summary::Summary;
 
-use super::pack::{write_with_rules, WithRules, Written};
+use super::pack::{pack_as, with_rules, write, WithHoles, WithRules, Written, HOLES};
 use super::vector::gathered;
-use super::ByRule;
+use super::{ByRule, Summed};
 use std::io;
 use std::path::Path;
 
@@ -49,7 +51,16 @@ pub fn rule_cases() -> Vec<ByRule<Case>> {
     gathered(&[rules::add])
 }
 
-/// Writes everything into a folder and says what was written.
-pub fn write_frames(folder: &Path) -> io::Result<Written<WithRules<Summary>>> {
-    write_with_rules(folder, &frame_cases(), &rule_cases())
+/// All cases about holes.
+pub fn hole_cases() -> Vec<Case> {
+    gathered(&[holes::add])
+}
+
+/// Writes everything into a folder, the cases about holes last, and says what was written.
+pub fn write_frames(folder: &Path) -> io::Result<Written<WithHoles<WithRules<Summary>, Summary>>> {
+    let (mut files, without) = with_rules(&frame_cases(), &rule_cases());
+    let holes = hole_cases();
+    files.extend(pack_as(HOLES, &holes));
+    let summary = WithHoles { without, holes: Summary::of(&holes) };
+    Ok(Written { files: write(folder, &files)?, summary })
 }

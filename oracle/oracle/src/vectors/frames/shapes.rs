@@ -2,6 +2,7 @@
 
 use super::Case;
 use crate::generate::patterns::{cells, Quad};
+use crate::generate::plans::Plan;
 use crate::random::Random;
 use crate::vectors::frame_rows::changed;
 use crate::vectors::meshes::{mesh, set_axes, square, strip};
@@ -16,6 +17,12 @@ const PITCH: f32 = 10.0;
 fn halved(points: &[(f32, f32)], cells: &[Quad]) -> Frame {
     let halves = |&[a, b, c, d]: &Quad| [[a, b, c], [a, c, d]];
     mesh(points, &cells.iter().flat_map(halves).collect::<Vec<_>>())
+}
+
+/// The mesh of a plan.
+pub fn planned(plan: &Plan) -> Frame {
+    let at = |&(u, v): &(i32, i32)| (PITCH * u as f32, PITCH * v as f32);
+    halved(&plan.spots.iter().map(at).collect::<Vec<_>>(), &plan.quads)
 }
 
 /// The mesh of the cells that a test picks, over a grid of so many corners by so many.
@@ -101,33 +108,6 @@ fn widened(frame: &Frame) -> Frame {
     })
 }
 
-/// The cells round a cell left out, so many times, and back to the first: at each place of the
-/// plane there are as many corners as turns.
-fn ring(turns: usize) -> Frame {
-    const ROUND: [[u32; 2]; 8] = [[0, 0], [1, 0], [2, 0], [2, 1], [2, 2], [1, 2], [0, 2], [0, 1]];
-    let around = |[i, j]: [u32; 2]| [[i, j], [i + 1, j], [i + 1, j + 1], [i, j + 1]];
-    let count = 8 * turns;
-    // a corner is told by its place and by the first of the cells in turn that have it
-    let first = |place: [u32; 2], cell: usize| {
-        let has = |cell: usize| around(ROUND[cell % 8]).contains(&place);
-        let back = (1..8).take_while(|back| has(cell + count - back)).count();
-        (place, (cell + count - back) % count)
-    };
-    let mut corners = Vec::new();
-    let mut number = |corner| {
-        let found = corners.iter().position(|known| *known == corner);
-        found.unwrap_or_else(|| {
-            corners.push(corner);
-            corners.len() - 1
-        }) as u32
-    };
-    let cell = |k: usize| around(ROUND[k % 8]).map(|place| number(first(place, k)));
-    let quads: Vec<Quad> = (0..count).map(cell).collect();
-    let points: Vec<_> =
-        corners.iter().map(|([i, j], _)| (PITCH * *i as f32, PITCH * *j as f32)).collect();
-    halved(&points, &quads)
-}
-
 pub fn add(cases: &mut Vec<Case>) {
     let grids = [square(), strip(4), square_grid(4, 3), holed(), apart()];
     cases.extend(grids.clone().map(Case::of));
@@ -147,6 +127,7 @@ pub fn add(cases: &mut Vec<Case>) {
     cases.extend((2..=6).map(|count| Case::of(crowded(count)).by(0, 0)));
     cases.extend((4..=6).map(|count| Case::of(widened(&crowded(count))).by(0, 0)));
     for turns in 1..=3 {
-        cases.extend([(1, 0), (1, 1)].map(|(least, lone)| Case::of(ring(turns)).by(least, lone)));
+        let ring = Case::of(planned(&Plan::turns(turns)));
+        cases.extend([ring.by(1, 0), ring.by(1, 1)]);
     }
 }

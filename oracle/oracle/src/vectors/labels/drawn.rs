@@ -1,7 +1,8 @@
 // Drawn lists of all kinds, with drawn workspace and room; and damage for long comparisons.
 
 use super::Case;
-use crate::generate::quad_lists::{quad_list, QUAD_KINDS};
+use crate::generate::cuts::{cut_quads, large_cut};
+use crate::generate::quad_lists::{disguise, quad_list, QUAD_KINDS};
 use crate::random::Random;
 use crate::vectors::form::untouched;
 use crate::vectors::{work, OverQuads, Vector};
@@ -32,9 +33,23 @@ fn drawn(kind: usize, random: &mut Random) -> Case {
     case
 }
 
-/// Any drawn case.
+/// Any drawn case, one in four of cut sheets.
 pub fn any_case(random: &mut Random) -> Case {
-    drawn(random.below(QUAD_KINDS.len()), random)
+    if !random.one_in(4) {
+        return drawn(random.below(QUAD_KINDS.len()), random);
+    }
+    let mut quads = cut_quads(random);
+    disguise(&mut quads, random);
+    let mut case = Case::of(&quads).by(random.pick(&[0, 0, 1, 4]), random.pick(&[0, 0, 1, 8]));
+    draw_lists(&mut case, random);
+    case
+}
+
+/// A cut sheet of as many corners as there may be.
+pub fn large_cut_case(random: &mut Random) -> Case {
+    let mut quads = large_cut(random).quads;
+    disguise(&mut quads, random);
+    Case::of(&quads)
 }
 
 /// One fault of a drawn row, where the case's lists can have it.

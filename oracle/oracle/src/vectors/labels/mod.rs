@@ -4,6 +4,7 @@ mod case;
 mod covers;
 mod drawn;
 mod full;
+mod holes;
 mod order;
 mod room;
 mod rows;
@@ -13,12 +14,13 @@ mod summary;
 mod work;
 
 pub use case::Case;
-pub use drawn::{any_case, damage};
+pub use drawn::{any_case, damage, large_cut_case};
 pub use shapes::grid;
 pub use summary::Summary;
 
-use super::pack::{write_cases, Written};
+use super::pack::{pack, pack_as, write, WithHoles, Written, HOLES};
 use super::vector::gathered;
+use super::Summed;
 use std::io;
 use std::path::Path;
 
@@ -37,7 +39,16 @@ pub fn label_cases() -> Vec<Case> {
     ])
 }
 
-/// Writes everything into a folder and says what was written.
-pub fn write_labels(folder: &Path) -> io::Result<Written<Summary>> {
-    write_cases(folder, &label_cases())
+/// All cases about holes.
+pub fn hole_cases() -> Vec<Case> {
+    gathered(&[holes::add])
+}
+
+/// Writes everything into a folder, the cases about holes last, and says what was written.
+pub fn write_labels(folder: &Path) -> io::Result<Written<WithHoles<Summary, Summary>>> {
+    let (cases, holes) = (label_cases(), hole_cases());
+    let mut files = pack(&cases);
+    files.extend(pack_as(HOLES, &holes));
+    let summary = WithHoles { without: Summary::of(&cases), holes: Summary::of(&holes) };
+    Ok(Written { files: write(folder, &files)?, summary })
 }

@@ -2,6 +2,7 @@
 
 mod changes;
 mod drawn;
+mod holes;
 mod limits;
 mod lines;
 mod rules;
@@ -10,7 +11,7 @@ mod twins;
 
 pub use summary::Summary;
 
-use super::pack::{files, write, Written};
+use super::pack::{files, write, Written, HOLES};
 use crate::stages::Build;
 use crate::text::answer;
 use std::io;
@@ -28,8 +29,8 @@ impl Group {
     }
 }
 
-/// All texts: those chosen by hand, the drawn ones, the rows of twins told apart, and the rules of
-/// spreads.
+/// All texts: those chosen by hand, the drawn ones, the rows of twins told apart, the rules of
+/// spreads, and holes.
 pub fn text_groups() -> Vec<Group> {
     vec![
         Group::of("lines", lines::texts()),
@@ -40,6 +41,7 @@ pub fn text_groups() -> Vec<Group> {
         Group::of("sound", drawn::sound()),
         Group::of("twins", twins::texts()),
         Group::of("rules", rules::texts()),
+        Group::of(HOLES, holes::texts()),
     ]
 }
 
