@@ -172,8 +172,8 @@ typedef struct {
     uint32_t entries;
 } ngeunsadok_counts;
 
-/* A component: the entries before its own, how many are its own, and its holes: places without one of its entries between others of them
- * both in their row and in their column. */
+/* A component: the entries before its own, how many are its own, and its holes: places where none of its entries stands, with some of
+ * them on both sides in the row and in the column. */
 typedef struct {
     uint32_t before;
     uint32_t entries;

@@ -290,8 +290,8 @@ static void labels(void) {
     EXPECT(memcmp(entries, placed, sizeof entries) == 0);
 }
 
-/* The holes of the cells of five corners by five, numbered along the rows, that have none of the marked corners: a place counts that has
- * corners on all four sides, and no other. */
+/* The holes of the cells of five corners by five, numbered along the rows, but for those that have a corner left out, a dot: a place
+ * counts that has corners on all four sides, and no other. */
 static void holes(void) {
     static const struct {
         const char *corners; /* along the rows */

@@ -191,7 +191,7 @@ mod tests {
         }
     }
 
-    /// The archive's answers with a hole more in the first component that has some: told in the frames, and in nothing else.
+    /// The expected answers with a hole more in the first component that has some.
     #[test]
     fn a_wrong_hole_is_told() {
         let mut frames = Frames::default();

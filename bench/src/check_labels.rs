@@ -9,7 +9,7 @@ use oracle::told::Told;
 use oracle::vectors::labels::{any_case, damage, grid, large_cut_case, Case};
 use oracle::vectors::OverQuads;
 
-/// A large sheet with its middle cut out, or a large grid of which some quads are left out, begun elsewhere or run the other way.
+/// Large walls, closed or open to a side, a comb, or a large grid of which some quads are left out, begun elsewhere or run the other way.
 fn large(random: &mut Random) -> Case {
     if random.coin() {
         return large_cut_case(random);

@@ -70,7 +70,7 @@ pub fn snake() -> Frame {
     square_grid(2_048, 2)
 }
 
-/// Sheets two corners thick whose rectangles are as empty as the corners allow, with their names: closed, with one hole of 260,100 places;
+/// Sheets two corners thick with large empty rectangles, with their names: closed, with one hole of 260,100 places;
 /// open to one side, with 520,200 places of which none is a hole; a comb, with 23,520 such places.
 pub fn hollow() -> [(&'static str, Plan); 3] {
     [

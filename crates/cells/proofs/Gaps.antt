@@ -2,37 +2,29 @@
 -- between two neighbours: so the holes are, from neighbour to neighbour, the places between them whose row has entries on both sides.
 -- Assumes nothing.
 use mathlib.Core.Path.{_≡_, refl, sym, ap, ap₂, _∙_}
-use mathlib.Core.Bool.{Bool, true, false, cond, not, _&&_, _||_, and-false}
-use mathlib.Core.List.{List, [], _∷_}
-use mathlib.Core.Logic.{_⊎_, inl, inr}
+use mathlib.Core.Bool.{Bool, true, false, cond, not, _&&_, _||_, and-or-distrib-right}
+use mathlib.Core.List.{List}
 use Prim.Native.Nat.{ℕ, zero, suc, _+_, _-_, _≤_, _<_}
 use native.Mathlib.Nat.{add-zero}
 use native.Mathlib.Decide.{ℕ-discrete, decLt}
 use native.Mathlib.Omega.{arith}
-use borrow.Author.Tests.{eqb-true, ltb-true, eq-eqb, ne-eqb, lt-ltb, le-ltb, not-true}
+use borrow.Author.Tests.{eqb-true, ltb-true, eq-eqb, ne-eqb, lt-ltb, not-true}
 use lib.Dec.{eqb, ltb}
 use Rattle.cells.specs.Sums.{total, howMany}
 use Rattle.cells.specs.Listed.{In, some-one, Entry, Before}
 use Rattle.cells.specs.Listed.In.{first, later}
 use Rattle.cells.specs.Listed.Before.{by-u, by-v}
-use Rattle.cells.specs.Holes.{places, width, height, held, row-around, column-around, hole, holes}
-use Rattle.cells.proofs.Sums.{total-same, total-more, total-sum, total-zero, how-many-same}
+use Rattle.cells.specs.Holes.{places, width, height, here, held, lower-v, higher-v, row-around, column-around, hole, holes}
 use Rattle.cells.specs.Twin.{numbers}
+use Rattle.cells.proofs.Sums.{total-same, total-more, total-sum, total-zero, how-many-same}
 use Rattle.cells.proofs.Tests.{never, both, passes, not-passed, same-truth, some-in, in-some, below-in, in-below}
 
--- ---- tests
-
-and-or : (a b c : Bool) → ((a || b) && c) ≡ ((a && c) || (b && c))
-and-or true b true = refl
-and-or true b false = sym (and-false b)
-and-or false b c = refl
+-- ---- places
 
 one-of-two : (a b : Bool) → (a ≡ true → b ≡ true → ⊥) → cond (a || b) 1 0 ≡ cond a 1 0 + cond b 1 0
 one-of-two true true h = absurd (h refl refl)
 one-of-two true false h = refl
 one-of-two false b h = omega arith
-
--- ---- places
 
 places-same : (P Q : ℕ → ℕ → Bool) (w h : ℕ) → ((u v : ℕ) → Q u v ≡ P u v) → places Q w h ≡ places P w h
 unfolding places
@@ -199,7 +191,7 @@ module _ (es : List Entry) (at : ℕ → Entry) (m : ℕ) (o : Numbered es at m)
 
       go : Dec (v < at (suc i) .v) → Dec (at (suc i) .v ≡ v) → (at (suc i) .v < v → between (m - 1) u v ≡ true) → between (m - 1) u v ≡ true
       go (yes a) b on = in-some (λ (j : ℕ). inside (at j) (at (suc j)) u v) (below-in (m - 1) i (omega arith)) (is-inside (at i) (at (suc i)) u v p column q a)
-      go (no a) (yes b) on = absurd (free (in-some (λ (e : Entry). eqb (e .u) u && eqb (e .v) v) (o .has (suc i) (omega arith)) (passes (eqb (at (suc i) .u) u) (eqb (at (suc i) .v) v) (eq-eqb (at (suc i) .u) u column) (eq-eqb (at (suc i) .v) v b))))
+      go (no a) (yes b) on = absurd (free (in-some (here u v) (o .has (suc i) (omega arith)) (passes (eqb (at (suc i) .u) u) (eqb (at (suc i) .v) v) (eq-eqb (at (suc i) .u) u column) (eq-eqb (at (suc i) .v) v b))))
       go (no a) (no b) on = on (omega (arith, a, b))
 
   -- one that passes a test has a number
@@ -216,9 +208,9 @@ module _ (es : List Entry) (at : ℕ → Entry) (m : ℕ) (o : Numbered es at m)
   -- a place that no entry holds, with some above and below it, is between neighbours
   around-between : (u v : ℕ) → (held es u v ≡ true → ⊥) → column-around es u v ≡ true → between (m - 1) u v ≡ true
   around-between u v free t =
-      let s = both (some-one (λ (e : Entry). eqb (e .u) u && ltb (e .v) v) es) (some-one (λ (e : Entry). eqb (e .u) u && ltb v (e .v)) es) t in
-      let a = found (λ (e : Entry). eqb (e .u) u && ltb (e .v) v) (s .0) in
-      let b = found (λ (e : Entry). eqb (e .u) u && ltb v (e .v)) (s .1) in
+      let s = both (some-one (lower-v u v) es) (some-one (higher-v u v) es) t in
+      let a = found (lower-v u v) (s .0) in
+      let b = found (higher-v u v) (s .1) in
       let p = both (eqb (at (a .k) .u) u) (ltb (at (a .k) .v) v) (a .is) in
       let q = both (eqb (at (b .k) .u) u) (ltb v (at (b .k) .v)) (b .is) in
       go (a .k) (b .k) (a .small) (b .small) (eqb-true (at (a .k) .u) u (p .0)) (ltb-true (at (a .k) .v) v (p .1)) (eqb-true (at (b .k) .u) u (q .0)) (ltb-true v (at (b .k) .v) (q .1)) (decLt (a .k) (b .k))
@@ -248,12 +240,12 @@ module _ (es : List Entry) (at : ℕ → Entry) (m : ℕ) (o : Numbered es at m)
       neighbours : (j : ℕ) → j < m - 1 → at j .u ≡ u → at (suc j) .u ≡ u → at j .v < v → v < at (suc j) .v → (held es u v ≡ true → ⊥) × (column-around es u v ≡ true)
       neighbours j l p q r s = (
         λ h.
-            let f = found (λ (e : Entry). eqb (e .u) u && eqb (e .v) v) h in
+            let f = found (here u v) h in
             let x = on-place (f .k) (f .is) in
             free j (f .k) l (f .small) p q r s (x .0) (x .1) (decLt j (f .k)),
-        passes (some-one (λ (e : Entry). eqb (e .u) u && ltb (e .v) v) es) (some-one (λ (e : Entry). eqb (e .u) u && ltb v (e .v)) es)
-            (in-some (λ (e : Entry). eqb (e .u) u && ltb (e .v) v) (o .has j (omega arith)) (passes (eqb (at j .u) u) (ltb (at j .v) v) (eq-eqb (at j .u) u p) (lt-ltb (at j .v) v r)))
-            (in-some (λ (e : Entry). eqb (e .u) u && ltb v (e .v)) (o .has (suc j) (omega arith)) (passes (eqb (at (suc j) .u) u) (ltb v (at (suc j) .v)) (eq-eqb (at (suc j) .u) u q) (lt-ltb v (at (suc j) .v) s))),
+        passes (some-one (lower-v u v) es) (some-one (higher-v u v) es)
+            (in-some (lower-v u v) (o .has j (omega arith)) (passes (eqb (at j .u) u) (ltb (at j .v) v) (eq-eqb (at j .u) u p) (lt-ltb (at j .v) v r)))
+            (in-some (higher-v u v) (o .has (suc j) (omega arith)) (passes (eqb (at (suc j) .u) u) (ltb v (at (suc j) .v)) (eq-eqb (at (suc j) .u) u q) (lt-ltb v (at (suc j) .v) s))),
       )
 
   hole-between : (u v : ℕ) → hole es u v ≡ (between (m - 1) u v && row-around es u v)
@@ -278,7 +270,7 @@ module _ (es : List Entry) (at : ℕ → Entry) (m : ℕ) (o : Numbered es at m)
   unfolding total
   counted R zero l = places-none (λ (u v : ℕ). false) (width es) (height es) (λ u v. refl)
   counted R (suc k) l =
-      places-same (λ (u v : ℕ). (inside (at k) (at (suc k)) u v && R u v) || (between k u v && R u v)) (λ (u v : ℕ). between (suc k) u v && R u v) (width es) (height es) (λ u v. and-or (inside (at k) (at (suc k)) u v) (between k u v) (R u v))
+      places-same (λ (u v : ℕ). (inside (at k) (at (suc k)) u v && R u v) || (between k u v && R u v)) (λ (u v : ℕ). between (suc k) u v && R u v) (width es) (height es) (λ u v. and-or-distrib-right (inside (at k) (at (suc k)) u v) (between k u v) (R u v))
       ∙ places-or (λ (u v : ℕ). inside (at k) (at (suc k)) u v && R u v) (λ (u v : ℕ). between k u v && R u v) (width es) (height es) apart
       ∙ omega (arith, counted R k (omega arith), gap-counted R (width es) (height es) (at k) (at (suc k)) (o .rises k (suc k) (omega arith) (omega arith)) (in-width (o .has k (omega arith))) (in-height (o .has (suc k) (omega arith))))
     where

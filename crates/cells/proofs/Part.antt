@@ -7,7 +7,7 @@ use lib.ListN.{length, getD, take}
 use lib.Seq.{take-at, drop-at, length-take-le}
 use borrow.Rule.Slice.PartMut.{putMid, postOf, mid-len}
 use Rattle.words.specs.inner.Regions.{Kept}
-use Rattle.words.proofs.Regions.{part-in, part-kept}
+use Rattle.words.proofs.Regions.{kept-wider, part-in, part-kept}
 use Rattle.cells.specs.inner.Sides.{groupsOf}
 
 pub groups-length : (n : ℕ) (ys : List ℕ) → 2 * n ≤ length ys → length (groupsOf n ys) ≡ n
@@ -26,9 +26,7 @@ module _ (n : ℕ) (xs p : List ℕ) (room : 2 * n ≤ length xs) (len : length 
       ∙ take-at p (postOf n (2 * n - n) xs) (2 * n - n) many
 
   pub returned-kept : Kept xs returned n n
-  returned-kept =
-      let k : Kept xs returned n (2 * n - n) = part-kept xs p n (2 * n) (omega arith) room many in
-      record { len = k .len; rest = λ j o. k .rest j (λ i l. o i (omega arith)) }
+  returned-kept = kept-wider (omega arith) (part-kept xs p n (2 * n) (omega arith) room many)
 
   pub returned-at : (q : ℕ) → q < n → getD returned (n + q) 0 ≡ getD p q 0
   returned-at q h = part-in xs p n (2 * n) (omega arith) room many q (omega arith)

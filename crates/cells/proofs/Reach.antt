@@ -76,25 +76,25 @@ square-near {a} {b} {c} {d} s =
 -- ---- quads
 
 module _ (cells : List ℕ) (n s : ℕ) (count : length cells ≡ 4 * n) (seed : s < n) {L : ℕ → Pair} (f : Fits quads cells s L) where
-  abbrev height : ℕ → ℕ
-  height q = least (L (cell 4 cells q 0)) (L (cell 4 cells q 1)) (L (cell 4 cells q 2)) (L (cell 4 cells q 3))
+  abbrev away : ℕ → ℕ
+  away q = least (L (cell 4 cells q 0)) (L (cell 4 cells q 1)) (L (cell 4 cells q 2)) (L (cell 4 cells q 3))
 
-  corner-above : (q i : ℕ) → i < 4 → height q ≤ far (L (cell 4 cells q i))
-  corner-above q = four (λ i. height q ≤ far (L (cell 4 cells q i))) (omega arith) (omega arith) (omega arith) (omega arith)
+  corner-above : (q i : ℕ) → i < 4 → away q ≤ far (L (cell 4 cells q i))
+  corner-above q = four (λ i. away q ≤ far (L (cell 4 cells q i))) (omega arith) (omega arith) (omega arith) (omega arith)
 
-  -- a square is one from each of its corners
-  corner-near : (q : ℕ) → Reached quads cells s q → (i : ℕ) → i < 4 → far (L (cell 4 cells q i)) ≤ suc (height q)
+  -- none of its corners is more than one further from 0 than the quad is
+  corner-near : (q : ℕ) → Reached quads cells s q → (i : ℕ) → i < 4 → far (L (cell 4 cells q i)) ≤ suc (away q)
   corner-near q r =
       let a = all-round cells f r in
       let b = square-next a in
       let c = square-next b in
-      four (λ i. far (L (cell 4 cells q i)) ≤ suc (height q)) (square-near a) (omega (arith, square-near b)) (omega (arith, square-near c)) (omega (arith, square-near (square-next c)))
+      four (λ i. far (L (cell 4 cells q i)) ≤ suc (away q)) (square-near a) (omega (arith, square-near b)) (omega (arith, square-near c)) (omega (arith, square-near (square-next c)))
 
   -- the quads of a step have a corner in common
-  step-rise : (p q : ℕ) → Reached quads cells s p → Next quads cells p q → height q ≤ suc (height p)
+  step-rise : (p q : ℕ) → Reached quads cells s p → Next quads cells p q → away q ≤ suc (away p)
   step-rise p q r e =
-      let a = side-ends (λ c. far (L c) ≤ suc (height p)) (e .step .there) (corner-near p r) in
-      let b = side-ends (λ c. height q ≤ far (L c)) (e .step .back) (corner-above q) in
+      let a = side-ends (λ c. far (L c) ≤ suc (away p)) (e .step .there) (corner-near p r) in
+      let b = side-ends (λ c. away q ≤ far (L c)) (e .step .back) (corner-above q) in
       omega arith
 
   reached-small : (q : ℕ) → Reached quads cells s q → q < n
@@ -103,7 +103,7 @@ module _ (cells : List ℕ) (n s : ℕ) (count : length cells ≡ 4 * n) (seed :
 
   pub labels-near : {c : ℕ} → ReachedCorner quads cells s c → (up (L c .1) ≤ n) × (down (L c .1) ≤ n)
   labels-near k =
-      let start : height s ≡ 0 = omega (arith, ap far (f .reads 0 (lit< tt)), up-pos 0) in
-      let low = height-small height start step-rise n reached-small (k .reached) in
+      let start : away s ≡ 0 = omega (arith, ap far (f .reads 0 (lit< tt)), up-pos 0) in
+      let low = height-small away start step-rise n reached-small (k .reached) in
       let near = corner-near (k .of) (k .reached) (k .place) (k .small) in
       subst (λ (x : ℕ). (up (L x .1) ≤ n) × (down (L x .1) ≤ n)) (k .is) (omega arith, omega arith)

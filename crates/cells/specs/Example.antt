@@ -44,8 +44,8 @@ abbrev pub whole : List Entry → Told
 whole es = record { entries = es; gaps = 0 }
 
 -- the shift is over listed corners, not reached ones; only reached quads must fit; two groups share a corner; a component has no entries,
--- since each of the eight places is claimed twice; an L of three quads has no hole, though (2,2) holds no corner; and a ring of twelve round
--- the place of a corner that is missing has one
+-- since each of the eight places is claimed twice; an L of three quads and a U of six have no hole, though (2,2) holds no corner; and a ring
+-- of twelve round the place of a missing corner has one
 abbrev pub examples : List Example
 examples =
     record { cells = 0 ∷ 1 ∷ 2 ∷ 3 ∷ 0 ∷ 3 ∷ 4 ∷ 5 ∷ 0 ∷ 3 ∷ 6 ∷ 7 ∷ []; groups = 0 ∷ 0 ∷ 0 ∷ []; least-quads = 1; least-corners = 1; answer = whole (square 0 1 2 3) ∷ [] }
@@ -64,6 +64,13 @@ examples =
       least-quads = 1;
       least-corners = 1;
       answer = whole (entry 0 0 0 ∷ entry 0 1 3 ∷ entry 0 2 7 ∷ entry 1 0 1 ∷ entry 1 1 2 ∷ entry 1 2 6 ∷ entry 2 0 4 ∷ entry 2 1 5 ∷ []) ∷ [];
+    }
+    ∷ record {
+      cells = 0 ∷ 1 ∷ 2 ∷ 3 ∷ 1 ∷ 4 ∷ 5 ∷ 2 ∷ 4 ∷ 6 ∷ 7 ∷ 5 ∷ 6 ∷ 8 ∷ 9 ∷ 7 ∷ 3 ∷ 2 ∷ 10 ∷ 11 ∷ 7 ∷ 9 ∷ 12 ∷ 13 ∷ [];
+      groups = 0 ∷ 0 ∷ 0 ∷ 0 ∷ 0 ∷ 0 ∷ [];
+      least-quads = 1;
+      least-corners = 1;
+      answer = whole (entry 0 0 0 ∷ entry 0 1 3 ∷ entry 0 2 11 ∷ entry 1 0 1 ∷ entry 1 1 2 ∷ entry 1 2 10 ∷ entry 2 0 4 ∷ entry 2 1 5 ∷ entry 3 0 6 ∷ entry 3 1 7 ∷ entry 3 2 13 ∷ entry 4 0 8 ∷ entry 4 1 9 ∷ entry 4 2 12 ∷ []) ∷ [];
     }
     ∷ record {
       cells = 0 ∷ 5 ∷ 6 ∷ 1 ∷ 1 ∷ 6 ∷ 7 ∷ 2 ∷ 2 ∷ 7 ∷ 8 ∷ 3 ∷ 3 ∷ 8 ∷ 9 ∷ 4 ∷ 5 ∷ 10 ∷ 11 ∷ 6 ∷ 8 ∷ 13 ∷ 14 ∷ 9 ∷ 10 ∷ 15 ∷ 16 ∷ 11 ∷ 13 ∷ 18 ∷ 19 ∷ 14 ∷ 15 ∷ 20 ∷ 21 ∷ 16 ∷ 16 ∷ 21 ∷ 22 ∷ 17 ∷ 17 ∷ 22 ∷ 23 ∷ 18 ∷ 18 ∷ 23 ∷ 24 ∷ 19 ∷ [];

@@ -20,19 +20,35 @@ unfoldable pub height : List Entry → ℕ
 height [] = 0
 height (e ∷ es) = max (suc (e .v)) (height es)
 
--- place (u, v) holds a listed corner
+-- an entry at place (u, v); the place holds a listed corner
+abbrev pub here : ℕ → ℕ → Entry → Bool
+here u v e = eqb (e .u) u && eqb (e .v) v
+
 unfoldable pub held : List Entry → ℕ → ℕ → Bool
-held es u v = some-one (λ (e : Entry). eqb (e .u) u && eqb (e .v) v) es
+held es u v = some-one (here u v) es
 
--- its row, the places of equal v, has listed corners at a lower and at a higher u
+-- an entry of its row, the places of equal v, at a lower u, and at a higher
+abbrev pub lower-u : ℕ → ℕ → Entry → Bool
+lower-u u v e = eqb (e .v) v && ltb (e .u) u
+
+abbrev pub higher-u : ℕ → ℕ → Entry → Bool
+higher-u u v e = eqb (e .v) v && ltb u (e .u)
+
+-- an entry of its column, the places of equal u, at a lower v, and at a higher
+abbrev pub lower-v : ℕ → ℕ → Entry → Bool
+lower-v u v e = eqb (e .u) u && ltb (e .v) v
+
+abbrev pub higher-v : ℕ → ℕ → Entry → Bool
+higher-v u v e = eqb (e .u) u && ltb v (e .v)
+
+-- its row has listed corners on both sides of it; its column has some above and below it
 abbrev pub row-around : List Entry → ℕ → ℕ → Bool
-row-around es u v = some-one (λ (e : Entry). eqb (e .v) v && ltb (e .u) u) es && some-one (λ (e : Entry). eqb (e .v) v && ltb u (e .u)) es
+row-around es u v = some-one (lower-u u v) es && some-one (higher-u u v) es
 
--- its column, the places of equal u, has listed corners at a lower and at a higher v
 abbrev pub column-around : List Entry → ℕ → ℕ → Bool
-column-around es u v = some-one (λ (e : Entry). eqb (e .u) u && ltb (e .v) v) es && some-one (λ (e : Entry). eqb (e .u) u && ltb v (e .v)) es
+column-around es u v = some-one (lower-v u v) es && some-one (higher-v u v) es
 
--- it counts: it holds no listed corner, and both its row and its column have some on either side of it
+-- it counts: it holds no listed corner, and its row and its column have some around it
 abbrev pub hole : List Entry → ℕ → ℕ → Bool
 hole es u v = not (held es u v) && (row-around es u v && column-around es u v)
 

@@ -2,7 +2,7 @@
 -- both sides in its row exactly where its x is between the two, and what the words tell from neighbour to neighbour are the holes. Assumes
 -- nothing.
 use mathlib.Core.Path.{_≡_, refl, sym, ap, ap₂, _∙_}
-use mathlib.Core.Bool.{Bool, true, cond, _&&_}
+use mathlib.Core.Bool.{Bool, true, cond}
 use mathlib.Core.List.{List}
 use Prim.Native.Nat.{ℕ, zero, suc, _+_, _*_, _-_, _/_, _%_, _≤_, _<_}
 use native.Mathlib.Nat.{zero-add}
@@ -17,10 +17,10 @@ use Rattle.words.specs.inner.Regions.{Kept, Filled}
 use Rattle.words.proofs.Regions.{kept-refl, kept-trans, filled-at, filled-zero}
 use Rattle.cells.specs.Sums.{total, howMany}
 use Rattle.cells.specs.Listed.{some-one, Entry}
-use Rattle.cells.specs.Holes.{height, row-around, holes}
+use Rattle.cells.specs.Holes.{height, lower-u, higher-u, row-around, holes}
 use Rattle.cells.proofs.Sums.{total-same, how-many-same}
 use Rattle.cells.proofs.Tests.{both, passes, same-truth, in-some}
-use Rattle.cells.proofs.Gaps.{gap, Found, found, holes-are}
+use Rattle.cells.proofs.Gaps.{gap, found, holes-are}
 use Rattle.fates.specs.declared.Run.{Run}
 use Rattle.walk.specs.inner.Emitted.{xIn, yIn, leastX, leastY, entriesOf}
 use Rattle.walk.specs.inner.Rows.{notedOf, rowTo, Noted, tellsAround, gapIn}
@@ -64,7 +64,7 @@ module _ (w : List ℕ) (run : Run) (o : Ascending w run) where
     some : Ends y m word → Row y m word
 
   x-small : (k : ℕ) → k < count → (0 < xIn w a k) × (xIn w a k < 32768)
-  x-small k h = (omega (arith, o .proper k h), omega (arith, o .keys k h))
+  x-small k h = (omega (arith, o .x-not-0 k h), omega (arith, o .keys k h))
 
   -- a record of another row changes nothing
   module _ {y m : ℕ} (other : yIn w a m ≡ y → ⊥) where
@@ -173,7 +173,7 @@ module _ (w : List ℕ) (run : Run) (o : Ascending w run) where
     abbrev word : ℕ
     word = rowTo w a (y0 + v) count
 
-    -- an entry of row v is a record of row y0 + v, and the other way round
+    -- an entry of row v is a record of row y0 + v
     of-row : (k : ℕ) → k < count → entry k .v ≡ v → yIn w a k ≡ y0 + v
     of-row k h e = omega (arith, y-low w run o k h)
 
@@ -184,15 +184,15 @@ module _ (w : List ℕ) (run : Run) (o : Ascending w run) where
         let b = ltb-true (word / 32768) (x0 + u) (s .0) in
         let c = ltb-true (x0 + u) (word % 32768) (s .1) in
         let l = x-small (r .high) (r .high-small) in
-        passes (some-one (λ (e : Entry). eqb (e .v) v && ltb (e .u) u) es) (some-one (λ (e : Entry). eqb (e .v) v && ltb u (e .u)) es)
-        (in-some (λ (e : Entry). eqb (e .v) v && ltb (e .u) u) (entry-in w a x0 y0 count (r .low) (r .low-small)) (passes (eqb (entry (r .low) .v) v) (ltb (entry (r .low) .u) u) (eq-eqb (entry (r .low) .v) v (omega (arith, r .low-row))) (lt-ltb (entry (r .low) .u) u (omega (arith, r .is, x-low w run o (r .low) (r .low-small))))))
-        (in-some (λ (e : Entry). eqb (e .v) v && ltb u (e .u)) (entry-in w a x0 y0 count (r .high) (r .high-small)) (passes (eqb (entry (r .high) .v) v) (ltb u (entry (r .high) .u)) (eq-eqb (entry (r .high) .v) v (omega (arith, r .high-row))) (lt-ltb u (entry (r .high) .u) (omega (arith, r .is)))))
+        passes (some-one (lower-u u v) es) (some-one (higher-u u v) es)
+        (in-some (lower-u u v) (entry-in w a x0 y0 count (r .low) (r .low-small)) (passes (eqb (entry (r .low) .v) v) (ltb (entry (r .low) .u) u) (eq-eqb (entry (r .low) .v) v (omega (arith, r .low-row))) (lt-ltb (entry (r .low) .u) u (omega (arith, r .is, x-low w run o (r .low) (r .low-small))))))
+        (in-some (higher-u u v) (entry-in w a x0 y0 count (r .high) (r .high-small)) (passes (eqb (entry (r .high) .v) v) (ltb u (entry (r .high) .u)) (eq-eqb (entry (r .high) .v) v (omega (arith, r .high-row))) (lt-ltb u (entry (r .high) .u) (omega (arith, r .is)))))
 
     back : Row (y0 + v) count word → row-around es u v ≡ true → tellsAround word (x0 + u) ≡ true
     back r t =
-        let s = both (some-one (λ (e : Entry). eqb (e .v) v && ltb (e .u) u) es) (some-one (λ (e : Entry). eqb (e .v) v && ltb u (e .u)) es) t in
-        let f = found es entry count (numbered w run o) (λ (e : Entry). eqb (e .v) v && ltb (e .u) u) (s .0) in
-        let g = found es entry count (numbered w run o) (λ (e : Entry). eqb (e .v) v && ltb u (e .u)) (s .1) in
+        let s = both (some-one (lower-u u v) es) (some-one (higher-u u v) es) t in
+        let f = found es entry count (numbered w run o) (lower-u u v) (s .0) in
+        let g = found es entry count (numbered w run o) (higher-u u v) (s .1) in
         let p = both (eqb (entry (f .k) .v) v) (ltb (entry (f .k) .u) u) (f .is) in
         let q = both (eqb (entry (g .k) .v) v) (ltb u (entry (g .k) .u)) (g .is) in
         go r (f .k) (g .k) (f .small) (g .small) (of-row (f .k) (f .small) (eqb-true (entry (f .k) .v) v (p .0))) (of-row (g .k) (g .small) (eqb-true (entry (g .k) .v) v (q .0))) (ltb-true (entry (f .k) .u) u (p .1)) (ltb-true u (entry (g .k) .u) (q .1))
@@ -244,7 +244,7 @@ module _ (w : List ℕ) (run : Run) (o : Ascending w run) where
                 let x : xIn w a k ≡ x0 + entry k .u = omega (arith, low) in
                 ap₂ (λ (p q : ℕ). tellsAround p q) e x ∙ around-is (entry k .u) (from + j)
 
-    pub holes-told : total (gapIn ys a y0) (count - 1) ≡ holes es
+    holes-told : total (gapIn ys a y0) (count - 1) ≡ holes es
     holes-told = total-same (λ j. gap (row-around es) (entry j) (entry (suc j))) (gapIn ys a y0) (count - 1) gap-is ∙ sym (holes-are (numbered w run o))
 
 -- ---- from a front that is cleared
@@ -275,5 +275,5 @@ module _ {w cleared : List ℕ} {run : Run} {y : ℕ} (o : Ascending w run) (lea
     pub may-count : Ascending ys run × ((y ≡ leastY ys run) × (height (entriesOf ys run) ≤ run .at))
     may-count = (ascending-stays all-kept run before o, (least ∙ sym (least-y-stays all-kept run before), omega (arith, ap height (entries-stay all-kept run before))))
 
-    pub holes-counted : total (gapIn ys (run .at) y) (run .count - 1) ≡ holes (entriesOf w run)
-    holes-counted = rw own-least (holes-told cleared run own ys own-before g ∙ ap holes (entries-stay (f .kept) run before))
+    pub gaps-are-holes : total (gapIn ys (run .at) y) (run .count - 1) ≡ holes (entriesOf w run)
+    gaps-are-holes = rw own-least (holes-told cleared run own ys own-before g ∙ ap holes (entries-stay (f .kept) run before))

@@ -76,7 +76,7 @@ module _ {w : List ℕ} {a m s : ℕ} {run : Run} (r : RunOf w a m s run) where
     ascending h few room = record {
       room = omega (arith, r .at, r .count, r .stretch .up, r .stretch .most);
       few = omega (arith, r .count, r .stretch .most);
-      proper = λ k l. let q = h .keyed k l in omega (arith, q .is, q .x-near .low);
+      x-not-0 = λ k l. let q = h .keyed k l in omega (arith, q .is, q .x-near .low);
       keys = λ k l. let q = h .keyed k l in omega (arith, q .is, q .x-near .high, q .y-near .high);
       rises = keys-rise;
     }

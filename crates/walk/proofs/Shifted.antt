@@ -1,6 +1,6 @@
 -- The entries that a run of records makes: one for each, on its corner and with its words less the least of them, as many as there are
 -- records, and in order where the records ascend. The least word is that of a record. Assumes nothing.
-use mathlib.Core.Path.{_≡_, refl, sym, ap, _∙_, subst}
+use mathlib.Core.Path.{_≡_, refl, sym, ap, ap₂, _∙_, subst}
 use mathlib.Core.List.{List, [], _∷_, _++_}
 use Prim.Native.Nat.{ℕ, zero, suc, _-_, _≤_, _<_, min}
 use native.Mathlib.Decide.{ℕ-discrete, decLt}
@@ -47,6 +47,11 @@ wider t = record { at = t .at; small = omega (arith, t .small); is = t .is }
 pub least-more : (f : ℕ → ℕ) (k : ℕ) → leastOf f (suc k) ≡ min (f k) (leastOf f k)
 unfolding leastOf
 least-more f k = refl
+
+pub least-same : (f g : ℕ → ℕ) (m : ℕ) → ((k : ℕ) → g k ≡ f k) → leastOf g m ≡ leastOf f m
+unfolding leastOf
+least-same f g zero h = refl
+least-same f g (suc m) h = ap₂ min (h m) (least-same f g m h)
 
 pub least-le : (f : ℕ → ℕ) (m k : ℕ) → k < m → leastOf f m ≤ f k
 unfolding leastOf

@@ -3,11 +3,11 @@
 use mathlib.Core.Path.{_≡_, refl, sym, ap, ap₂, _∙_}
 use mathlib.Core.Bool.{Bool, true, false, cond}
 use mathlib.Core.List.{List, [], _∷_, _++_}
-use Prim.Native.Nat.{ℕ, zero, suc, _+_, _*_, _-_, _/_, _%_, _≤_, _<_, min}
+use Prim.Native.Nat.{ℕ, zero, suc, _+_, _*_, _/_, _%_, _≤_, _<_}
 use native.Mathlib.Omega.{arith}
-use lib.ListN.{length, getD}
+use lib.ListN.{getD}
 use Rattle.words.specs.inner.Regions.{Kept}
-use Rattle.words.proofs.Regions.{kept-trans, kept-past}
+use Rattle.words.proofs.Regions.{kept-trans, kept-wider, kept-past}
 use Rattle.cells.specs.Listed.{Entry}
 use Rattle.cells.specs.Holes.{height}
 use Rattle.fates.specs.declared.Run.{Run}
@@ -16,17 +16,9 @@ use Rattle.fates.specs.inner.Fates.{keyIn, cornerIn}
 use Rattle.fates.specs.inner.FateWords.{fateFrom, fateAt}
 use Rattle.fates.specs.Judged.{isKept}
 use Rattle.fates.specs.inner.Index.{indexAt, runsAt}
-use Rattle.walk.specs.inner.Emitted.{leastOf, xIn, yIn, leastX, leastY, entriesTo, entriesOf}
+use Rattle.walk.specs.inner.Emitted.{xIn, yIn, leastX, leastY, entriesTo, entriesOf}
 use Rattle.walk.specs.inner.Emitting.{Ascending, Writable}
-
-least-same : (f g : ℕ → ℕ) (m : ℕ) → ((k : ℕ) → g k ≡ f k) → leastOf g m ≡ leastOf f m
-unfolding leastOf
-least-same f g zero h = refl
-least-same f g (suc m) h = ap₂ min (h m) (least-same f g m h)
-
--- fewer words at the front are among more
-kept-wider : {xs ys : List ℕ} {a b : ℕ} → a ≤ b → Kept xs ys 0 a → Kept xs ys 0 b
-kept-wider h k = record { len = k .len; rest = λ j o. k .rest j (λ i l e. o i (omega arith) e) }
+use Rattle.walk.proofs.Shifted.{least-same}
 
 module _ {xs ys : List ℕ} {free : ℕ} (k : Kept xs ys 0 free) where
   stays : (p : ℕ) → free ≤ p → getD ys p 0 ≡ getD xs p 0
@@ -80,7 +72,7 @@ module _ {xs ys : List ℕ} {free : ℕ} (k : Kept xs ys 0 free) where
     ascending-stays o = record {
       room = omega (arith, o .room, k .len);
       few = o .few;
-      proper = λ j l. rw (key-stays j) (o .proper j l);
+      x-not-0 = λ j l. rw (key-stays j) (o .x-not-0 j l);
       keys = λ j l. rw (key-stays j) (o .keys j l);
       rises = λ i j l m. rw (key-stays i, key-stays j) (o .rises i j l m);
     }
@@ -101,8 +93,8 @@ module _ {w now : List ℕ} {span n : ℕ} (o : Writable w span n) (k : Kept w n
   rows-fit : isKept (fateAt span n w s) ≡ true → height (entriesOf now (runs .lone)) ≤ 4 * span
   rows-fit t = rw (entries-are, runs-are) (o .rows s h t)
 
-  pub may-write : isKept (fateAt span n w s) ≡ true → Ascending now (runs .lone) × (height (entriesOf now (runs .lone)) ≤ runs .lone .at)
-  may-write t = (ascending-stays k (runs .lone) past (rw runs-are (o .kept s h t)), omega (arith, rows-fit t, past))
+  pub may-write-component : isKept (fateAt span n w s) ≡ true → Ascending now (runs .lone) × (height (entriesOf now (runs .lone)) ≤ runs .lone .at)
+  may-write-component t = (ascending-stays k (runs .lone) past (rw runs-are (o .kept s h t)), omega (arith, rows-fit t, past))
 
   -- so no word is changed but at the front
   pub still-kept : {after : List ℕ} (kept : Bool) → kept ≡ isKept (fateAt span n w s) → Kept now after 0 (cond kept (height (entriesOf now (runs .lone))) 0) → Kept w after 0 (4 * span)

@@ -5,7 +5,7 @@ use mathlib.Core.Bool.{true, false≢true}
 use mathlib.Core.List.{List}
 use Prim.Native.Nat.{ℕ, zero, suc, _+_, _*_, _-_, _≤_, _<_}
 use native.Mathlib.Omega.{arith}
-use lib.IntN.{pos, negℤ}
+use lib.IntN.{pos}
 use lib.ListN.{length}
 use Rattle.mesh.specs.Lists.{mostQuads}
 use Rattle.cells.specs.Kind.{Pair, _⊕_, Fits, Lone}
@@ -14,9 +14,10 @@ use Rattle.cells.specs.Listed.{Entry, Some, Listed, Grouping, groupingBy, Compo
 use Rattle.cells.specs.Listed.Dropped.{few-cells, no-labelling, few-corners}
 use Rattle.cells.specs.Listed.Components.{start, within, dropped, kept}
 use Rattle.cells.specs.Holes.{height}
-use Rattle.cells.proofs.Whole.{up-pos, sum, opp, pair}
+use Rattle.cells.proofs.Whole.{pair}
 use Rattle.cells.proofs.Reach.{labels-near}
 use Rattle.laying.specs.inner.Layout.{centre, label}
+use Rattle.laying.proofs.Reading.{word-sum}
 use Rattle.fates.specs.declared.LabelParams.{LabelParams}
 use Rattle.fates.specs.declared.Run.{Run}
 use Rattle.fates.specs.declared.Fate.{Fate}
@@ -89,8 +90,8 @@ module _ (cells : List ℕ) (s : ℕ) (L : ℕ → Pair) (w : List ℕ) (run : R
         let y : ℕ = yIn w a k in
         let near = labels-near cells n s whole seed fits (h .sound k l .reached) in
         let e : L (cornerIn w a k) .1 ≡ label y = ap (λ (p : Pair). p .1) (words-are k l .0) in
-        let t = (rw e at near) in
-        (omega (arith, t, sum (pos y) (negℤ (pos centre)), opp (pos centre), up-pos y, up-pos centre), omega (arith, t, sum (pos y) (negℤ (pos centre)), opp (pos centre), up-pos y, up-pos centre))
+        let t = rw e at near in
+        (omega (arith, t, word-sum y), omega (arith, t, word-sum y))
 
     few-rows : height (entriesOf w run) ≤ 2 * n + 1
     few-rows = height-most (entriesOf w run) (2 * n + 1) (λ e i. let t = entry-of w a x0 y0 m e i in low-row e (t .at) (t .small) (t .is) (least-met (yIn w a) m (omega (arith, low (t .at) (t .small) .1, words-are (t .at) (t .small) .2))))

@@ -1,5 +1,5 @@
 // Rows of a component at the front of the workspace, a word each: the least and the greatest x of a row's records.
-// A caller may rely on 0 for a row that has none, and that no x lies between the two then.
+// The caller clears the words first: 0 is a row without records, and no x lies between its two halves.
 ghost use mathlib.Core.Path.{_≡_};
 ghost use mathlib.Core.Bool.{cond};
 ghost use Prim.Native.Nat.{ℕ, _+_, _-_, _≤_, _<_};

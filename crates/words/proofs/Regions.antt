@@ -25,6 +25,10 @@ kept-refl xs a m = record { len = refl; rest = λ k o. refl }
 pub kept-trans : {xs ys zs : List ℕ} {a m : ℕ} → Kept xs ys a m → Kept ys zs a m → Kept xs zs a m
 kept-trans p q = record { len = q .len ∙ p .len; rest = λ k o. q .rest k o ∙ p .rest k o }
 
+-- what is outside a region is outside its front
+pub kept-wider : {xs ys : List ℕ} {a m n : ℕ} → m ≤ n → Kept xs ys a m → Kept xs ys a n
+kept-wider h q = record { len = q .len; rest = λ k o. q .rest k (λ j l e. o j (omega arith) e) }
+
 pub kept-set : {xs ys : List ℕ} {a m : ℕ} → Kept xs ys a m → (p v : ℕ) → a ≤ p → p < a + m → Kept xs (set ys p v) a m
 kept-set {xs} {ys} {a} {m} q p v l h = record {
   len = length-set ys p v ∙ q .len;
@@ -45,7 +49,7 @@ pub filled-grow : {xs ys : List ℕ} {a q : ℕ} {f : ℕ → ℕ} (p v : ℕ) �
 filled-grow {xs} {ys} {a} {q} {f} p v s at h e = rw at (filled-more wider (omega arith) (omega arith) e)
   where
     wider : Filled xs ys a (q + 1) q f
-    wider = record { kept = record { len = s .kept .len; rest = λ k o. s .kept .rest k (λ j l i. o j (omega arith) i) }; holds = s .holds }
+    wider = record { kept = kept-wider (omega arith) (s .kept); holds = s .holds }
 
 -- a store at place p of a region that is filled changes what it holds at p alone
 pub filled-at : {xs ys : List ℕ} {a m : ℕ} {f : ℕ → ℕ} (g : ℕ → ℕ) (p v : ℕ) → Filled xs ys a m m f → a + m ≤ length xs → p < m → v ≡ g p → ((k : ℕ) → (k ≡ p → ⊥) → f k ≡ g k) → Filled xs (set ys (a + p) v) a m m g

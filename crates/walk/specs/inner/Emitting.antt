@@ -19,7 +19,7 @@ use Rattle.walk.specs.Call.{entryWords, allEntries, componentWords}
 pub record Ascending (w : List ℕ) (run : Run) : Type 0 where
   pub room : run .at + 2 * run .count ≤ length w
   pub few : run .count ≤ 4 * mostQuads
-  pub proper : (k : ℕ) → k < run .count → 32768 ≤ keyIn w (run .at) k
+  pub x-not-0 : (k : ℕ) → k < run .count → 32768 ≤ keyIn w (run .at) k
   pub keys : (k : ℕ) → k < run .count → keyIn w (run .at) k < 1073741824
   pub rises : (j k : ℕ) → j < k → k < run .count → keyIn w (run .at) j < keyIn w (run .at) k
 

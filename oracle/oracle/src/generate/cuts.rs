@@ -103,8 +103,8 @@ fn cuts_of(corners: usize, random: &mut Random) -> Plan {
     Plan::apart(&plans)
 }
 
-/// Walls two corners thick, closed or open to a side, or a comb, of as many corners as there may be:
-/// most places of the rectangle are empty.
+/// Walls two corners thick, closed or open to a side, or a comb, of up to 4,096 corners: most places
+/// of the rectangle are empty.
 pub fn large_cut(random: &mut Random) -> Plan {
     let plan = match random.below(3) {
         0 => {

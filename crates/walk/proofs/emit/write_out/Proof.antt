@@ -10,7 +10,7 @@ use Rattle.fates.specs.declared.Runs.{Runs}
 use Rattle.fates.specs.Judged.{isKept}
 use Rattle.walk.specs.inner.Emitted.{outTo}
 use Rattle.walk.specs.inner.Emitting.{Written}
-use Rattle.walk.proofs.Staying.{fate-stays, runs-are, entries-are, may-write, still-kept}
+use Rattle.walk.proofs.Staying.{fate-stays, runs-are, entries-are, may-write-component, still-kept}
 use Rattle.walk.proofs.Counting.{Counting, counting-none, counting-more}
 use Rattle.walk.proofs.Writing.{written-none, written-next, room-next}
 use Rattle.walk.proofs.emit.write_out.Statement.{statement}
@@ -49,7 +49,7 @@ write-kept-requires c κs =
     let runs = c .before .before .before .runs-at .ensures in
     let room = room-next (z .work .now) (z .span) (z .n) (l .s) (l .totals .components) (l .totals .entries) (c .before .before .before .before .before .is-kept .result) (z .components .now) (z .entries .now) (l .components) (l .entries) (l .inv .1) kept (l .inv .2) test (s .pre .1 .0) (s .pre .1 .1) in
     λ t.
-    let may = may-write (s .pre .0) (l .inv .5) test runs (sym kept ∙ t) in
+    let may = may-write-component (s .pre .0) (l .inv .5) test runs (sym kept ∙ t) in
     (may .0, may .1, room t .0, rw (runs-are (s .pre .0) (l .inv .5) test runs) (room t .1), omega (arith, l .inv .1 .few-entries, s .pre .0 .quads))
 
 counted-requires : tie.Need-counted-requires Inv-loop μ-loop

@@ -1,5 +1,4 @@
 -- `noted` goes by whether the row has a record.
-use native.Mathlib.Omega.{arith}
 use borrow.Author.Needs.{needs}
 use borrow.Author.Tests.{eq-eqb, ne-eqb}
 use Rattle.walk.proofs.rows.noted.Statement.{statement}

@@ -25,8 +25,8 @@ fn frames() -> Vec<Frame> {
     plans.iter().map(planned).collect()
 }
 
-/// The frames that texts can say: the shapes in all turns by turns, and some of those with several
-/// components.
+/// The frames that texts can say: each shape in one of the four turns, and some of those with
+/// several components.
 pub fn text_frames() -> Vec<Frame> {
     let turned = shapes().enumerate().map(|(i, shape)| shape.plan().turned(i));
     let frames = turned.chain(series().into_iter().step_by(3)).map(|plan| planned(&plan));

@@ -45,7 +45,7 @@ pub fn any_case(random: &mut Random) -> Case {
     case
 }
 
-/// A cut sheet of as many corners as there may be.
+/// A cut sheet of up to 4,096 corners.
 pub fn large_cut_case(random: &mut Random) -> Case {
     let mut quads = large_cut(random).quads;
     disguise(&mut quads, random);
