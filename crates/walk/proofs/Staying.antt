@@ -12,7 +12,7 @@ use Rattle.cells.specs.Listed.{Entry}
 use Rattle.cells.specs.Holes.{height}
 use Rattle.fates.specs.declared.Run.{Run}
 use Rattle.fates.specs.declared.Runs.{Runs}
-use Rattle.fates.specs.inner.Fates.{keyIn, cornerIn}
+use Rattle.fates.specs.inner.Fates.{fatesAt, walkedAt, keyIn, cornerIn}
 use Rattle.fates.specs.inner.FateWords.{fateFrom, fateAt}
 use Rattle.fates.specs.Judged.{isKept}
 use Rattle.fates.specs.inner.Index.{indexAt, runsAt}
@@ -28,7 +28,7 @@ module _ {xs ys : List ℕ} {free : ℕ} (k : Kept xs ys 0 free) where
 
   module _ (span n s : ℕ) (h : free ≤ 4 * span) where
     pub fate-stays : fateAt span n ys s ≡ fateAt span n xs s
-    fate-stays = ap₂ fateFrom (stays (4 * span + 13 * n + s) (omega arith)) (stays (4 * span + 26 * n + s) (omega arith))
+    fate-stays = ap₂ fateFrom (stays (fatesAt span n + s) (omega arith)) (stays (walkedAt span n + s) (omega arith))
 
     word-stays : (c : ℕ) → getD ys (indexAt span n s + c) 0 ≡ getD xs (indexAt span n s + c) 0
     word-stays c = stays (indexAt span n s + c) (omega arith)
