@@ -16,6 +16,7 @@ use Rattle.cells.specs.Listed.In.{first, later}
 use Rattle.cells.specs.Listed.Before.{by-u, by-v}
 use Rattle.cells.specs.Holes.{places, width, height, here, held, lower-v, higher-v, row-around, column-around, hole, holes}
 use Rattle.cells.specs.Twin.{numbers}
+use Rattle.cells.specs.inner.Gaps.{gap}
 use Rattle.cells.proofs.Sums.{total-same, total-more, total-sum, total-zero, how-many-same}
 use Rattle.cells.proofs.Tests.{never, both, passes, not-passed, same-truth, some-in, in-some, below-in, in-below}
 
@@ -50,10 +51,6 @@ places-or P Q w h apart =
     (λ u. total-sum (λ v. cond (P u v) 1 0) (λ v. cond (Q u v) 1 0) (λ v. cond (P u v || Q u v) 1 0) h (λ v. one-of-two (P u v) (Q u v) (apart u v)))
 
 -- ---- a gap
-
--- of the places between e and f, where these stand in one column, those that are as R says
-abbrev pub gap : (ℕ → ℕ → Bool) → Entry → Entry → ℕ
-gap R e f = cond (eqb (e .u) (f .u)) (howMany (λ (j : ℕ). R (e .u) (e .v + 1 + j)) (f .v - (e .v + 1))) 0
 
 -- place (u, v) stands in column c, past a and before b
 abbrev in-column : (c a b u v : ℕ) → Bool

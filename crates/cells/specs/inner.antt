@@ -1,3 +1,4 @@
 pub mod Forest
 pub mod Table
 pub mod Sides
+pub mod Gaps

@@ -10,10 +10,10 @@ use Rattle.cells.specs.Listed.In.{first, later}
 use Rattle.cells.specs.Holes.{height}
 use Rattle.cells.proofs.Gaps.{Numbered, in-height}
 use Rattle.fates.specs.declared.Run.{Run}
-use Rattle.walk.specs.inner.Emitted.{xIn, yIn, leastX, leastY, entriesTo, entriesOf}
+use Rattle.walk.specs.inner.Emitted.{xIn, yIn, leastX, leastY, entryIn, entriesTo, entriesOf}
 use Rattle.walk.specs.inner.Emitting.{Ascending}
 use Rattle.walk.specs.Demanded.{Place}
-use Rattle.walk.proofs.Shifted.{entryAt, entries-more, least-le, least-met, entry-of, entry-in, before-at}
+use Rattle.walk.proofs.Shifted.{entries-more, least-le, least-met, entry-of, entry-in, before-at}
 
 -- ---- one entry more
 
@@ -23,7 +23,7 @@ height-snoc [] e = omega arith
 height-snoc (f ∷ es) e = omega (arith, height-snoc es e)
 
 pub height-more : (w : List ℕ) (a x y k : ℕ) → height (entriesTo w a x y (suc k)) ≡ max (height (entriesTo w a x y k)) (suc (yIn w a k - y))
-height-more w a x y k = ap height (entries-more w a x y k) ∙ height-snoc (entriesTo w a x y k) (entryAt w a x y k)
+height-more w a x y k = ap height (entries-more w a x y k) ∙ height-snoc (entriesTo w a x y k) (entryIn w a x y k)
 
 pub height-most : (es : List Entry) (b : ℕ) → ((e : Entry) → In e es → e .v < b) → height es ≤ b
 unfolding height
@@ -60,7 +60,7 @@ module _ (w : List ℕ) (run : Run) (o : Ascending w run) where
 
   -- ---- the entries
 
-  pub numbered : Numbered (entriesOf w run) (entryAt w a (leastX w run) (leastY w run)) count
+  pub numbered : Numbered (entriesOf w run) (entryIn w a (leastX w run) (leastY w run)) count
   numbered = record {
     place = λ e i. own e i .at;
     small = λ e i. own e i .small;
@@ -69,7 +69,7 @@ module _ (w : List ℕ) (run : Run) (o : Ascending w run) where
     rises = λ j k h l. before-at w a (leastX w run) (leastY w run) j k (o .rises j k h l) (x-low j (omega arith)) (y-low j (omega arith));
   }
     where
-      own : (e : Entry) → In e (entriesOf w run) → Place count (λ k. e ≡ entryAt w a (leastX w run) (leastY w run) k)
+      own : (e : Entry) → In e (entriesOf w run) → Place count (λ k. e ≡ entryIn w a (leastX w run) (leastY w run) k)
       own e i = entry-of w a (leastX w run) (leastY w run) count e i
 
   -- each stands in one of the rows

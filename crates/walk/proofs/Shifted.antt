@@ -2,7 +2,7 @@
 -- records, and in order where the records ascend. The least word is that of a record. Assumes nothing.
 use mathlib.Core.Path.{_≡_, refl, sym, ap, ap₂, _∙_, subst}
 use mathlib.Core.List.{List, [], _∷_, _++_}
-use Prim.Native.Nat.{ℕ, zero, suc, _-_, _≤_, _<_, min}
+use Prim.Native.Nat.{ℕ, zero, suc, _≤_, _<_, min}
 use native.Mathlib.Decide.{ℕ-discrete, decLt}
 use native.Mathlib.Omega.{arith}
 use lib.ListN.{length, length-append}
@@ -11,8 +11,8 @@ use Rattle.cells.specs.Listed.In.{first, later}
 use Rattle.cells.specs.Listed.Sorted.{none, more}
 use Rattle.cells.specs.Listed.Before.{by-u, by-v}
 use Rattle.cells.proofs.Tests.{not-in, in-front, in-last}
-use Rattle.fates.specs.inner.Fates.{keyIn, cornerIn}
-use Rattle.walk.specs.inner.Emitted.{xIn, yIn, leastOf, entriesTo}
+use Rattle.fates.specs.inner.Fates.{keyIn}
+use Rattle.walk.specs.inner.Emitted.{xIn, yIn, leastOf, entryIn, entriesTo}
 use Rattle.walk.specs.Demanded.{Place}
 
 -- ---- lists with one more at their end
@@ -75,47 +75,43 @@ least-met f (suc m) h = go (decLt (f m) (leastOf f m)) (λ l. least-met f m l)
         rw e (wider (r (omega (arith, e))))
 
 module _ (w : List ℕ) (a : ℕ) where
-  -- record k as an entry
-  abbrev pub entryAt : ℕ → ℕ → ℕ → Entry
-  entryAt x0 y0 k = record { u = xIn w a k - x0; v = yIn w a k - y0; corner = cornerIn w a k }
-
   -- ---- the entries
 
   pub none-yet : (x0 y0 : ℕ) → entriesTo w a x0 y0 0 ≡ []
   unfolding entriesTo
   none-yet x0 y0 = refl
 
-  pub entries-more : (x0 y0 k : ℕ) → entriesTo w a x0 y0 (suc k) ≡ entriesTo w a x0 y0 k ++ (entryAt x0 y0 k ∷ [])
+  pub entries-more : (x0 y0 k : ℕ) → entriesTo w a x0 y0 (suc k) ≡ entriesTo w a x0 y0 k ++ (entryIn w a x0 y0 k ∷ [])
   unfolding entriesTo
   entries-more x0 y0 k = refl
 
   pub length-entries : (x0 y0 m : ℕ) → length (entriesTo w a x0 y0 m) ≡ m
   length-entries x0 y0 zero = ap length (none-yet x0 y0)
-  length-entries x0 y0 (suc m) = ap length (entries-more x0 y0 m) ∙ length-append (entriesTo w a x0 y0 m) (entryAt x0 y0 m ∷ []) ∙ omega (arith, length-entries x0 y0 m)
+  length-entries x0 y0 (suc m) = ap length (entries-more x0 y0 m) ∙ length-append (entriesTo w a x0 y0 m) (entryIn w a x0 y0 m ∷ []) ∙ omega (arith, length-entries x0 y0 m)
 
-  pub entry-of : (x0 y0 m : ℕ) (e : Entry) → In e (entriesTo w a x0 y0 m) → Place m (λ k. e ≡ entryAt x0 y0 k)
+  pub entry-of : (x0 y0 m : ℕ) (e : Entry) → In e (entriesTo w a x0 y0 m) → Place m (λ k. e ≡ entryIn w a x0 y0 k)
   unfolding entriesTo
   entry-of x0 y0 zero e i = not-in i
   entry-of x0 y0 (suc m) e i = go (in-snoc (entriesTo w a x0 y0 m) i) (λ j. entry-of x0 y0 m e j)
     where
-      go : Where e (entryAt x0 y0 m) (entriesTo w a x0 y0 m) → (In e (entriesTo w a x0 y0 m) → Place m (λ k. e ≡ entryAt x0 y0 k)) → Place (suc m) (λ k. e ≡ entryAt x0 y0 k)
+      go : Where e (entryIn w a x0 y0 m) (entriesTo w a x0 y0 m) → (In e (entriesTo w a x0 y0 m) → Place m (λ k. e ≡ entryIn w a x0 y0 k)) → Place (suc m) (λ k. e ≡ entryIn w a x0 y0 k)
       go (Where.old j) r = wider (r j)
       go (Where.new p) r = record { at = m; small = omega arith; is = p }
 
-  pub entry-in : (x0 y0 m k : ℕ) → k < m → In (entryAt x0 y0 k) (entriesTo w a x0 y0 m)
+  pub entry-in : (x0 y0 m k : ℕ) → k < m → In (entryIn w a x0 y0 k) (entriesTo w a x0 y0 m)
   entry-in x0 y0 zero k h = absurd (omega arith)
   entry-in x0 y0 (suc m) k h = go (ℕ-discrete k m) (λ l. entry-in x0 y0 m k l)
     where
-      go : Dec (k ≡ m) → (k < m → In (entryAt x0 y0 k) (entriesTo w a x0 y0 m)) → In (entryAt x0 y0 k) (entriesTo w a x0 y0 (suc m))
+      go : Dec (k ≡ m) → (k < m → In (entryIn w a x0 y0 k) (entriesTo w a x0 y0 m)) → In (entryIn w a x0 y0 k) (entriesTo w a x0 y0 (suc m))
       go (yes p) r = rw (p, entries-more x0 y0 m) (in-last (entriesTo w a x0 y0 m))
-      go (no p) r = rw (entries-more x0 y0 m) (in-front (entryAt x0 y0 m ∷ []) (r (omega (arith, p))))
+      go (no p) r = rw (entries-more x0 y0 m) (in-front (entryIn w a x0 y0 m ∷ []) (r (omega (arith, p))))
 
   -- ---- their order
 
-  pub before-at : (x0 y0 j k : ℕ) → keyIn w a j < keyIn w a k → x0 ≤ xIn w a j → y0 ≤ yIn w a j → Before (entryAt x0 y0 j) (entryAt x0 y0 k)
+  pub before-at : (x0 y0 j k : ℕ) → keyIn w a j < keyIn w a k → x0 ≤ xIn w a j → y0 ≤ yIn w a j → Before (entryIn w a x0 y0 j) (entryIn w a x0 y0 k)
   before-at x0 y0 j k h p q = go (decLt (xIn w a j) (xIn w a k))
     where
-      go : Dec (xIn w a j < xIn w a k) → Before (entryAt x0 y0 j) (entryAt x0 y0 k)
+      go : Dec (xIn w a j < xIn w a k) → Before (entryIn w a x0 y0 j) (entryIn w a x0 y0 k)
       go (yes l) = by-u (omega arith)
       go (no l) = by-v (omega arith) (omega arith)
 
@@ -124,10 +120,10 @@ module _ (w : List ℕ) (a : ℕ) where
   entries-sorted x0 y0 zero r b = none
   entries-sorted x0 y0 (suc m) r b = sorted-snoc (entriesTo w a x0 y0 m) (entries-sorted x0 y0 m (λ j k h l. r j k h (omega arith)) (λ k l. b k (omega arith))) low
     where
-      low : (e : Entry) → In e (entriesTo w a x0 y0 m) → Before e (entryAt x0 y0 m)
+      low : (e : Entry) → In e (entriesTo w a x0 y0 m) → Before e (entryIn w a x0 y0 m)
       low e i =
           let t = entry-of x0 y0 m e i in
           let k : ℕ = t .at in
           let h : k < m = t .small in
           let l = b k (omega arith) in
-          subst (λ (f : Entry). Before f (entryAt x0 y0 m)) (sym (t .is)) (before-at x0 y0 k m (r k m h (omega arith)) (l .0) (l .1))
+          subst (λ (f : Entry). Before f (entryIn w a x0 y0 m)) (sym (t .is)) (before-at x0 y0 k m (r k m h (omega arith)) (l .0) (l .1))

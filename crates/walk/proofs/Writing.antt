@@ -12,10 +12,10 @@ use Rattle.cells.specs.Listed.{Entry}
 use Rattle.cells.specs.Holes.{holes}
 use Rattle.fates.specs.declared.Run.{Run}
 use Rattle.fates.specs.inner.Fates.{cornerIn}
-use Rattle.walk.specs.inner.Emitted.{xIn, yIn, entriesTo, entriesOf}
+use Rattle.walk.specs.inner.Emitted.{xIn, yIn, entryIn, entriesTo, entriesOf}
 use Rattle.walk.specs.Call.{entryWords, allEntries, componentWords}
 use Rattle.walk.specs.inner.Emitting.{pasted, Written}
-use Rattle.walk.proofs.Shifted.{entryAt, entries-more, length-entries}
+use Rattle.walk.proofs.Shifted.{entries-more, length-entries}
 use Rattle.walk.proofs.Counting.{all-snoc, run-length, outBelow, keeps, loneRun, Counting, joined, passed, one-more, grows}
 use Rattle.walk.proofs.Pasting.{front-more, pasted-more}
 
@@ -86,7 +86,7 @@ pub entries-pasted : (w : List ℕ) (a x y k place : ℕ) (before now : List ℕ
 unfolding entryWords
 entries-pasted w a x y k place before now room is =
     let es = entriesTo w a x y k in
-    let e = entryAt w a x y k in
+    let e = entryIn w a x y k in
     let words = e .u ∷ e .v ∷ e .corner ∷ [] in
     ap (pasted (3 * (place + k)) words) is
     ∙ pasted-more (3 * place) (3 * (place + k)) (entryWords es) words before room (omega (arith, length-entry-words es, length-entries w a x y k))

@@ -27,11 +27,11 @@ use Rattle.fates.specs.Judged.{Labels, Becomes, isKept}
 use Rattle.fates.specs.inner.FateWords.{fateAt, isLabelled}
 use Rattle.fates.specs.inner.Index.{runsAt}
 use Rattle.fates.specs.inner.Computed.{Computed}
-use Rattle.walk.specs.inner.Emitted.{xIn, yIn, leastX, leastY, entriesOf, outTo}
+use Rattle.walk.specs.inner.Emitted.{xIn, yIn, leastX, leastY, entryIn, entriesOf, outTo}
 use Rattle.walk.specs.inner.Emitting.{Ascending, Writable}
 use Rattle.walk.specs.Demanded.{Place}
 use Rattle.walk.proofs.Above.{over}
-use Rattle.walk.proofs.Shifted.{entryAt, least-le, least-met, entry-of, entry-in, entries-sorted}
+use Rattle.walk.proofs.Shifted.{least-le, least-met, entry-of, entry-in, entries-sorted}
 use Rattle.walk.proofs.Extent.{height-most}
 use Rattle.walk.proofs.Runs.{Held, exactly, held, ascending}
 use Rattle.walk.proofs.Counting.{run-length, joined, passed}
@@ -71,17 +71,17 @@ module _ (cells : List ℕ) (s : ℕ) (L : ℕ → Pair) (w : List ℕ) (run : R
     least = (label x0, label y0);
     lone = λ e i. let t = entry-of w a x0 y0 m e i in subst (λ (f : Entry). Lone quads cells s L (f .corner)) (sym (t .is)) (h .sound (t .at) (t .small));
     pairs = λ e i. let t = entry-of w a x0 y0 m e i in subst (λ (f : Entry). L (f .corner) ≡ (label x0, label y0) ⊕ (pos (f .u), pos (f .v))) (sym (t .is)) (shifted (t .at) (t .small));
-    every = λ c l. let p = h .every c l in record { entry = entryAt w a x0 y0 (p .at); among = entry-in w a x0 y0 m (p .at) (p .small); is = p .is };
+    every = λ c l. let p = h .every c l in record { entry = entryIn w a x0 y0 (p .at); among = entry-in w a x0 y0 m (p .at) (p .small); is = p .is };
     zero-u = λ e i. let t = entry-of w a x0 y0 m e i in taken-u (least-met (xIn w a) m (omega (arith, low (t .at) (t .small) .0, words-are (t .at) (t .small) .1)));
     zero-v = λ e i. let t = entry-of w a x0 y0 m e i in taken-v (least-met (yIn w a) m (omega (arith, low (t .at) (t .small) .1, words-are (t .at) (t .small) .2)));
     ordered = entries-sorted w a x0 y0 m (r .rises) low;
   }
     where
       taken-u : Place m (λ k. xIn w a k ≡ x0) → Some (entriesOf w run) (λ f. f .u ≡ 0)
-      taken-u t = record { entry = entryAt w a x0 y0 (t .at); among = entry-in w a x0 y0 m (t .at) (t .small); is = omega (arith, t .is) }
+      taken-u t = record { entry = entryIn w a x0 y0 (t .at); among = entry-in w a x0 y0 m (t .at) (t .small); is = omega (arith, t .is) }
 
       taken-v : Place m (λ k. yIn w a k ≡ y0) → Some (entriesOf w run) (λ f. f .v ≡ 0)
-      taken-v t = record { entry = entryAt w a x0 y0 (t .at); among = entry-in w a x0 y0 m (t .at) (t .small); is = omega (arith, t .is) }
+      taken-v t = record { entry = entryIn w a x0 y0 (t .at); among = entry-in w a x0 y0 m (t .at) (t .small); is = omega (arith, t .is) }
 
   -- where L fits, the records' rows are few: their second words are at most n from that of 0
   module _ (n : ℕ) (whole : length cells ≡ 4 * n) (seed : s < n) (fits : Fits quads cells s L) where
@@ -96,7 +96,7 @@ module _ (cells : List ℕ) (s : ℕ) (L : ℕ → Pair) (w : List ℕ) (run : R
     few-rows : height (entriesOf w run) ≤ 2 * n + 1
     few-rows = height-most (entriesOf w run) (2 * n + 1) (λ e i. let t = entry-of w a x0 y0 m e i in low-row e (t .at) (t .small) (t .is) (least-met (yIn w a) m (omega (arith, low (t .at) (t .small) .1, words-are (t .at) (t .small) .2))))
       where
-        low-row : (e : Entry) (k : ℕ) → k < m → e ≡ entryAt w a x0 y0 k → Place m (λ j. yIn w a j ≡ y0) → e .v < 2 * n + 1
+        low-row : (e : Entry) (k : ℕ) → k < m → e ≡ entryIn w a x0 y0 k → Place m (λ j. yIn w a j ≡ y0) → e .v < 2 * n + 1
         low-row e k l is t = omega (arith, ap (λ (f : Entry). f .v) is, word-near k l, word-near (t .at) (t .small), t .is)
 
 -- ---- the components, quad by quad

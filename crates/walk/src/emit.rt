@@ -3,16 +3,15 @@
 ghost use mathlib.Core.Path.{_≡_};
 ghost use mathlib.Core.Bool.{true, cond};
 ghost use mathlib.Core.List.{[], _∷_};
-ghost use Prim.Native.Nat.{ℕ, _+_, _*_, _-_, _≤_, _<_, min, max};
-ghost use lib.ListN.{length, getD};
+ghost use Prim.Native.Nat.{_+_, _*_, _-_, _≤_, _<_, min, max};
+ghost use lib.ListN.{length};
 ghost use Rattle.words.specs.inner.Regions.{Kept};
-ghost use Rattle.cells.specs.Sums.{total};
 ghost use Rattle.cells.specs.Holes.{holes, height};
 ghost use Rattle.laying.specs.inner.Layout.{centre};
 ghost use Rattle.fates.specs.inner.Fates.{keyIn, cornerIn};
 ghost use Rattle.fates.specs.Judged.{isKept};
 ghost use Rattle.walk.specs.inner.Emitted.{xIn, yIn, leastX, leastY, entriesOf, outTo};
-ghost use Rattle.walk.specs.inner.Rows.{Noted, gapIn};
+ghost use Rattle.walk.specs.inner.Rows.{Noted, gapAfter};
 ghost use Rattle.walk.specs.Call.{entryWords, allEntries};
 ghost use Rattle.walk.specs.inner.Emitting.{Ascending, Writable, pasted, Written};
 use crate::inner::Totals;
@@ -158,11 +157,11 @@ fn height_of(work: &[u32], run: Run, y: u32) -> u32
     high
 }
 
-// The run's records noted in the words of their rows, which stand at the front of the workspace and are 0 before.
+// The run's records noted in the words of their rows, at the front of the workspace, where none is noted before.
 fn note_rows(work: &mut [u32], run: Run, y: u32)
     requires { ⌜ Ascending (now work) run ⌝ }
     requires { ⌜ (y ≡ leastY (now work) run) × (height (entriesOf (now work) run) ≤ run .at) ⌝ }
-    requires { ⌜ ((v : ℕ) → v < height (entriesOf (now work) run) → getD (now work) v 0 ≡ 0) ⌝ }
+    requires { ⌜ Noted (now work) (now work) run 0 ⌝ }
     ensures { λ _. ⌜ Noted (now (work .entry)) (now (work .exit)) run (run .count) ⌝ }
 {
     let mut k = 0;
@@ -173,11 +172,12 @@ fn note_rows(work: &mut [u32], run: Run, y: u32)
     }
 }
 
-// The holes between record k and the next, by the words of the rows: none where these two are not of one column.
+// The holes between record k and the next, by the words of the rows: none where the two are not of one column.
 fn gap_after(work: &[u32], run: Run, y: u32, k: usize) -> u32
     requires { ⌜ Ascending (now work) run ⌝ }
     requires { ⌜ (y ≡ leastY (now work) run) × (k + 1 < run .count) × (height (entriesOf (now work) run) ≤ run .at) ⌝ }
-    ensures { λ r. ⌜ (r ≡ gapIn (now (work .entry)) (run .at) y k) × (r ≤ 32768) ⌝ }
+    requires { ⌜ Noted (now work) (now work) run (run .count) ⌝ }
+    ensures { λ r. ⌜ (r ≡ gapAfter (now (work .entry)) run k) × (r ≤ 32768) ⌝ }
 {
     let x = x_of(work, run.at, k);
     if x_of(work, run.at, k + 1) != x {
@@ -188,11 +188,12 @@ fn gap_after(work: &[u32], run: Run, y: u32, k: usize) -> u32
     rows_around(work, from, to, x)
 }
 
-// The holes between all neighbours of the run.
+// The holes of a run whose rows are noted: those between all its neighbours.
 fn gaps_of(work: &[u32], run: Run, y: u32) -> u32
     requires { ⌜ Ascending (now work) run ⌝ }
     requires { ⌜ (y ≡ leastY (now work) run) × (height (entriesOf (now work) run) ≤ run .at) ⌝ }
-    ensures { λ r. ⌜ r ≡ total (gapIn (now (work .entry)) (run .at) y) (run .count - 1) ⌝ }
+    requires { ⌜ Noted (now work) (now work) run (run .count) ⌝ }
+    ensures { λ r. ⌜ r ≡ holes (entriesOf (now (work .entry)) run) ⌝ }
 {
     let mut holes = 0u32;
     let mut k = 0;

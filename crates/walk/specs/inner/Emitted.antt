@@ -22,10 +22,14 @@ module _ (w : List ℕ) (a : ℕ) where
   abbrev pub yIn : ℕ → ℕ
   yIn k = keyIn w a k % 32768
 
-  -- an entry for each of the first m records, with its words less x0 and y0
+  -- record k as an entry, with its words less x0 and y0
+  abbrev pub entryIn : ℕ → ℕ → ℕ → Entry
+  entryIn x0 y0 k = record { u = xIn k - x0; v = yIn k - y0; corner = cornerIn w a k }
+
+  -- an entry for each of the first m records
   unfoldable pub entriesTo : ℕ → ℕ → ℕ → List Entry
   entriesTo x0 y0 zero = []
-  entriesTo x0 y0 (suc m) = entriesTo x0 y0 m ++ (record { u = xIn m - x0; v = yIn m - y0; corner = cornerIn w a m } ∷ [])
+  entriesTo x0 y0 (suc m) = entriesTo x0 y0 m ++ (entryIn x0 y0 m ∷ [])
 
 -- the least words of a run, and its entries
 abbrev pub leastX : List ℕ → Run → ℕ

@@ -7,7 +7,7 @@ use borrow.Rule.Slice.PartMut.{putMid}
 use Rattle.words.specs.inner.Regions.{Filled}
 use Rattle.cells.specs.Holes.{height}
 use Rattle.walk.specs.inner.Emitted.{entriesOf}
-use Rattle.walk.proofs.RowWords.{front-cleared, may-note, may-count, all-kept, gaps-are-holes}
+use Rattle.walk.proofs.RowWords.{front-cleared, may-note, may-count, all-kept, same-holes}
 use Rattle.walk.proofs.emit.holes_of.Statement.{statement}
 use Rattle.walk.proofs.emit.holes_of.Tie as tie
 
@@ -54,7 +54,7 @@ returns : tie.Need-returns
 returns c =
     let s = c .before .before .before .before .before .before .before .before .before .before .before .before .before .before in
     let f = cleared (c .before .before .before .before .before .before .before .before) in
-    (c .gaps-of .ensures ∙ gaps-are-holes (s .pre .0) (s .pre .1 .0) (s .pre .1 .1) f (c .before .before .before .before .note-rows .ensures), all-kept (s .pre .0) (s .pre .1 .0) (s .pre .1 .1) f (c .before .before .before .before .note-rows .ensures))
+    (c .gaps-of .ensures ∙ same-holes (s .pre .0) (s .pre .1 .0) (s .pre .1 .1) f (c .before .before .before .before .note-rows .ensures), all-kept (s .pre .0) (s .pre .1 .0) (s .pre .1 .1) f (c .before .before .before .before .note-rows .ensures))
 
 pub holes-of-spec : {M : Type 1} → statement M
 holes-of-spec = tie.close (tie.spec height-of-requires wide-requires sub-fill-zero part-fill-zero-start part-fill-zero-end fill-zero-requires note-rows-requires gaps-of-requires same-length returns)

@@ -9,7 +9,7 @@ use Rattle.walk.specs.inner.Emitted.{xIn, yIn, leastY}
 use Rattle.walk.specs.inner.Rows.{notedOf, Noted}
 use Rattle.walk.proofs.Extent.{y-low, row-small}
 use Rattle.walk.proofs.Staying.{x-stays, y-stays}
-use Rattle.walk.proofs.RowWords.{none-noted, one-noted}
+use Rattle.walk.proofs.RowWords.{one-noted}
 use Rattle.walk.proofs.emit.note_rows.Statement.{statement}
 use Rattle.walk.proofs.emit.note_rows.Tie as tie
 use Rattle.walk.proofs.emit.note_rows.Reads as reads
@@ -22,7 +22,7 @@ abbrev μ-loop : tie.MeasureT-loop
 μ-loop work₀ run y k₀ work k = run .count - k
 
 loop-holds : tie.Need-loop-holds Inv-loop μ-loop
-loop-holds c = let s = c .before in (omega arith, none-noted (s .args .work .now) (s .args .run) (s .pre .0) (s .pre .1 .1))
+loop-holds c = let s = c .before in (omega arith, s .pre .1 .1)
 
 y-of-requires : tie.Need-y-of-requires Inv-loop μ-loop
 y-of-requires c κs = let s = c .before .before .before .before .before in omega (arith, s .pre .0 .room, c .before .before .before .loop .inv .1 .kept .len)
