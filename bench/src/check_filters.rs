@@ -4,9 +4,13 @@ use crate::archive;
 use crate::drawn::Call;
 use oracle::random::Random;
 use oracle::told::Told;
-use oracle::vectors::filters::{any_case, damage, noisy_grid, Case};
+use oracle::vectors::filters::{any_case, damage, large_median_case, noisy_grid, Case};
 
+/// About 4,096 quads in one group or in many, or a large grid.
 fn large(random: &mut Random) -> Case {
+    if random.coin() {
+        return large_median_case(random);
+    }
     let (wide, noise) = (random.between(20, 64) as usize, random.within(0.0, 0.5));
     noisy_grid(wide, 64, noise, random)
 }

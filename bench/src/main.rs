@@ -26,7 +26,7 @@ bench frames                  time of whole frames and of each stage beside the 
 bench check roots             every f32's root beside the machine's own
 bench check pairs COUNT SEED  angles and distances beside document 01's rules in Rust
 bench check filters COUNT SEED
-                              the filters on drawn lists beside the ruled Rust, every word
+                              the filters on drawn lists beside the ruled Rust, every word; in one of five the median decides
 bench check labels COUNT SEED the labelling on drawn lists beside the Rust's walk, every word; one in four is of sheets with
                               parts cut out
 bench check frames COUNT SEED whole frames and their stages beside the ruled and the unchanged Rust, every word;

@@ -5,6 +5,7 @@ pub mod Sides
 pub mod Skew
 pub mod Sizes
 pub mod Records
+pub mod Gathering
 pub mod Runs
 pub mod Middle
 pub mod Weighing

@@ -1,17 +1,20 @@
--- Runs of one group where groups ascend: where one ends, and that the medians of the first s places become those of the first e when
--- the middle of the run from s up to e is stored at its group. Assumes nothing.
-use mathlib.Core.Path.{_≡_, sym, ap, _∙_}
+-- Runs of one group where groups ascend: where one ends, and that the medians of the first s records become those of the first e when
+-- the middle one of the lengths of the run from s up to e is stored at its group. Assumes nothing.
+use mathlib.Core.Path.{_≡_, refl, sym, ap, _∙_}
 use mathlib.Core.List.{List}
-use Prim.Native.Nat.{ℕ, _+_, _*_, _-_, _/_, _≤_, _<_}
+use Prim.Native.Nat.{ℕ, _+_, _*_, _-_, _≤_, _<_}
 use native.Mathlib.Decide.{decLt}
 use native.Mathlib.Omega.{arith}
-use lib.ListN.{length, getD, set}
+use lib.ListN.{length, getD, set, drop, length-set}
+use lib.Seq.{getD-set-same, getD-set-other, getD-take, getD-drop}
+use borrow.Rule.Slice.PartMut.{midOf, putMid, mid-len}
 use Rattle.words.specs.inner.Order.{wordOf}
-use Rattle.words.specs.inner.Regions.{Kept}
-use Rattle.words.proofs.Regions.{set-cases, kept-refl, kept-set}
-use Rattle.cells.specs.inner.Table.{tableAt}
-use Rattle.filter.specs.inner.Layout.{mediansAt}
-use Rattle.filter.specs.inner.Steps.{Run, Middle, Rising, Centred}
+use Rattle.words.specs.inner.Regions.{Outside, Kept}
+use Rattle.words.specs.inner.Middle.{Middle, wordIn}
+use Rattle.words.proofs.Regions.{part-kept}
+use Rattle.words.proofs.Counting.{middle-same}
+use Rattle.filter.specs.inner.Layout.{sortedAt, gatheredAt, mediansAt}
+use Rattle.filter.specs.inner.Steps.{Run, Central, Rising, Centred}
 
 pub run-ends : (group : ℕ → ℕ) (m s e : ℕ) → ((j k : ℕ) → j ≤ k → k < m → group j ≤ group k) → s < e → e ≤ m → ((k : ℕ) → k < s → group k < group s) → ((k : ℕ) → s ≤ k → k < e → group k ≡ group s) → (e < m → group e ≡ group s → ⊥) → Run group m s e
 run-ends group m s e rises some within before alike stop = record {
@@ -52,85 +55,112 @@ run-same {f} {g} {m} {s} {e} same r = record {
 
 -- ---- the medians
 
-table-kept : {n : ℕ} {xs ys : List ℕ} → Kept xs ys (mediansAt n) n → (c k : ℕ) → c < 2 → k < 4 * n → wordOf ys (tableAt n) c k ≡ wordOf xs (tableAt n) c k
-table-kept {n} q c k h l = q .rest (2 * n + 2 * k + c) (λ j b e. omega arith)
+-- no record has moved
+records-kept : {n m : ℕ} {xs ys : List ℕ} → Centred n m xs ys → (c k : ℕ) → c < 2 → k < n → wordOf ys (sortedAt n) c k ≡ wordOf xs (sortedAt n) c k
+records-kept {n} q c k h l = q .rest (sortedAt n + 2 * k + c) (λ j b e. omega arith) (λ j b e. omega arith)
 
-pub rising-kept : {n : ℕ} {xs ys : List ℕ} → Kept xs ys (mediansAt n) n → Rising n xs → Rising n ys
+pub rising-kept : {n m : ℕ} {xs ys : List ℕ} → Centred n m xs ys → Rising n xs → Rising n ys
 rising-kept {n} q r = record {
-  rising = λ j k h l. omega (arith, r .rising j k h l, table-kept q 1 j (omega arith) (omega arith), table-kept q 1 k (omega arith) l);
-  small = λ k l. omega (arith, r .small k l, table-kept q 1 k (omega arith) l);
+  rising = λ j k h l. omega (arith, r .rising j k h l, records-kept q 1 j (omega arith) (omega arith), records-kept q 1 k (omega arith) l);
+  small = λ k l. omega (arith, r .small k l, records-kept q 1 k (omega arith) l);
 }
 
 -- a group before the run keeps its median, since it is lower
-middle-earlier : {n : ℕ} {xs ys : List ℕ} {k : ℕ} (g v : ℕ) → wordOf xs (tableAt n) 1 k < g → mediansAt n + g < length ys → Middle n xs ys k → Middle n xs (set ys (mediansAt n + g) v) k
-middle-earlier {n} {xs} {ys} {k} g v l h m = record {
-  s = m .s;
-  e = m .e;
-  run = m .run;
-  from = m .from;
-  to = m .to;
-  is = set-cases (λ (z : ℕ). z ≡ wordOf xs (tableAt n) 0 (m .s + (m .e - m .s) / 2)) ys (mediansAt n + g) v (mediansAt n + wordOf xs (tableAt n) 1 k) h (λ i. absurd (omega arith)) (λ i. m .is);
-}
+central-earlier : {n : ℕ} {xs ys zs : List ℕ} {k : ℕ} → getD zs (mediansAt n + wordOf xs (sortedAt n) 1 k) 0 ≡ getD ys (mediansAt n + wordOf xs (sortedAt n) 1 k) 0 → Central n xs ys k → Central n xs zs k
+central-earlier {n} {xs} e m = record { s = m .s; e = m .e; run = m .run; from = m .from; to = m .to; is = rw e (m .is) }
 
-middle-here : {n : ℕ} {xs : List ℕ} {s e k : ℕ} (ys : List ℕ) (g v : ℕ) → Run (wordOf xs (tableAt n) 1) (4 * n) s e → s ≤ k → k < e → g ≡ wordOf xs (tableAt n) 1 s → v ≡ wordOf xs (tableAt n) 0 (s + (e - s) / 2) → mediansAt n + g < length ys → Middle n xs (set ys (mediansAt n + g) v) k
-middle-here {n} {xs} {s} {e} {k} ys g v r from to eg ev h = record {
-  s = s;
-  e = e;
-  run = r;
-  from = from;
-  to = to;
-  is = set-cases (λ (z : ℕ). z ≡ wordOf xs (tableAt n) 0 (s + (e - s) / 2)) ys (mediansAt n + g) v (mediansAt n + wordOf xs (tableAt n) 1 k) h (λ i. ev) (λ i. absurd (omega (arith, i, r .alike k from to)));
-}
-
--- ---- the loop: the medians of the first s places are written, and a run begins at s
+-- ---- the loop: the medians of the first s records are written, the lengths from there on have not moved, and a run begins at s
 
 pub record RunsTo (n s : ℕ) (xs ys : List ℕ) : Type 0 where
-  pub within : s ≤ 4 * n
+  pub within : s ≤ n
   pub centred : Centred n s xs ys
-  pub begins : (k : ℕ) → k < s → s < 4 * n → wordOf xs (tableAt n) 1 k < wordOf xs (tableAt n) 1 s
+  pub ahead : (j : ℕ) → 4 * s ≤ j → j < 4 * n → getD ys (gatheredAt n + j) 0 ≡ getD xs (gatheredAt n + j) 0
+  pub begins : (k : ℕ) → k < s → s < n → wordOf xs (sortedAt n) 1 k < wordOf xs (sortedAt n) 1 s
 
 pub runs-none : (n : ℕ) (xs : List ℕ) → RunsTo n 0 xs xs
 runs-none n xs = record {
   within = omega arith;
-  centred = record { kept = kept-refl xs (mediansAt n) n; middle = λ k h. absurd (omega arith) };
+  centred = record { len = refl; rest = λ k o u. refl; central = λ k h. absurd (omega arith) };
+  ahead = λ j h l. refl;
   begins = λ k h. absurd (omega arith);
 }
 
 -- the same of the list as it stands
-pub begins-kept : {n s : ℕ} {xs ys : List ℕ} → RunsTo n s xs ys → s < 4 * n → (k : ℕ) → k < s → wordOf ys (tableAt n) 1 k < wordOf ys (tableAt n) 1 s
-begins-kept {n} {s} t l k h = omega (arith, t .begins k h l, table-kept (t .centred .kept) 1 k (omega arith) (omega arith), table-kept (t .centred .kept) 1 s (omega arith) l)
+pub begins-kept : {n s : ℕ} {xs ys : List ℕ} → RunsTo n s xs ys → s < n → (k : ℕ) → k < s → wordOf ys (sortedAt n) 1 k < wordOf ys (sortedAt n) 1 s
+begins-kept {n} {s} t l k h = omega (arith, t .begins k h l, records-kept (t .centred) 1 k (omega arith) (omega arith), records-kept (t .centred) 1 s (omega arith) l)
 
-pub group-small : {n s : ℕ} {xs ys : List ℕ} → Rising n xs → RunsTo n s xs ys → s < 4 * n → wordOf ys (tableAt n) 1 s < n
-group-small {n} {s} rising t l = omega (arith, rising .small s l, table-kept (t .centred .kept) 1 s (omega arith) l)
+pub group-small : {n s : ℕ} {xs ys : List ℕ} → Rising n xs → RunsTo n s xs ys → s < n → wordOf ys (sortedAt n) 1 s < n
+group-small {n} {s} rising t l = omega (arith, rising .small s l, records-kept (t .centred) 1 s (omega arith) l)
 
-pub runs-more : {n s e : ℕ} {xs ys : List ℕ} (g : ℕ) → Rising n xs → RunsTo n s xs ys → mediansAt n + n ≤ length xs → Run (wordOf ys (tableAt n) 1) (4 * n) s e → g ≡ wordOf ys (tableAt n) 1 s → RunsTo n e xs (set ys (mediansAt n + g) (getD ys (tableAt n + 2 * (s + (e - s) / 2)) 0))
-runs-more {n} {s} {e} {xs} {ys} g rising t room run eg = record {
-  within = run .within;
-  centred = record { kept = kept-set kept (mediansAt n + g) v (omega arith) (omega (arith, small)); middle = λ k h. go k h (decLt k s) };
-  begins = run-next r;
-}
-  where
-    kept : Kept xs ys (mediansAt n) n
-    kept = t .centred .kept
+-- where a run's lengths stand
+abbrev pub runAt : ℕ → ℕ → ℕ
+runAt n s = gatheredAt n + 4 * s
 
-    at : s < 4 * n
-    at = omega (arith, run .some, run .within)
+-- the run from s up to e, whose lengths were lent and came back as part, and the median b that was found of them
+module _ {n s e : ℕ} {xs ys : List ℕ} (part : List ℕ) (g b : ℕ) (rising : Rising n xs) (t : RunsTo n s xs ys) (room : mediansAt n + n ≤ length xs) (run : Run (wordOf ys (sortedAt n) 1) n s e) (group : g ≡ wordOf ys (sortedAt n) 1 s)
+    (lent : length part ≡ length (midOf (runAt n s) (runAt n e - runAt n s) ys)) (found : Middle (wordIn (midOf (runAt n s) (runAt n e - runAt n s) ys)) (length (midOf (runAt n s) (runAt n e - runAt n s) ys)) b) where
+  abbrev back : List ℕ
+  back = putMid (runAt n s) (runAt n e - runAt n s) ys part
 
-    r : Run (wordOf xs (tableAt n) 1) (4 * n) s e
-    r = run-same (λ k h. table-kept kept 1 k (omega arith) h) run
+  abbrev after : List ℕ
+  after = set back (mediansAt n + g) b
 
-    small : g < n
-    small = omega (arith, eg, group-small rising t at)
+  at : s < n
+  at = omega (arith, run .some, run .within)
 
-    group-is : g ≡ wordOf xs (tableAt n) 1 s
-    group-is = eg ∙ table-kept kept 1 s (omega arith) at
+  ordered : runAt n s ≤ runAt n e
+  ordered = omega (arith, run .some)
 
-    v : ℕ
-    v = getD ys (tableAt n + 2 * (s + (e - s) / 2)) 0
+  inside : runAt n e ≤ length ys
+  inside = omega (arith, run .within, t .centred .len)
 
-    middle-is : v ≡ wordOf xs (tableAt n) 0 (s + (e - s) / 2)
-    middle-is = ap (λ (k : ℕ). getD ys k 0) (omega arith) ∙ table-kept kept 0 (s + (e - s) / 2) (omega arith) (omega (arith, run .some, run .within))
+  size : length (midOf (runAt n s) (runAt n e - runAt n s) ys) ≡ runAt n e - runAt n s
+  size = mid-len (runAt n s) (runAt n e) ys inside
 
-    go : (k : ℕ) → k < e → Dec (k < s) → Middle n xs (set ys (mediansAt n + g) v) k
-    go k h (yes l) = middle-earlier g v (omega (arith, group-is, r .before k l)) (omega (arith, small, kept .len)) (t .centred .middle k l)
-    go k h (no l) = middle-here ys g v r (omega arith) h group-is middle-is (omega (arith, small, kept .len))
+  kept : Kept ys back (runAt n s) (runAt n e - runAt n s)
+  kept = part-kept ys part (runAt n s) (runAt n e) ordered inside (lent ∙ size)
+
+  small : g < n
+  small = omega (arith, group, group-small rising t at)
+
+  group-is : g ≡ wordOf xs (sortedAt n) 1 s
+  group-is = group ∙ records-kept (t .centred) 1 s (omega arith) at
+
+  r : Run (wordOf xs (sortedAt n) 1) n s e
+  r = run-same (λ k h. records-kept (t .centred) 1 k (omega arith) h) run
+
+  stored-lt : mediansAt n + g < length back
+  stored-lt = omega (arith, small, kept .len, t .centred .len)
+
+  -- what is neither in the run nor the median's place is as it was
+  still : (k : ℕ) → Outside (runAt n s) (runAt n e - runAt n s) k → (k ≡ mediansAt n + g → ⊥) → getD after k 0 ≡ getD ys k 0
+  still k o m = getD-set-other back (mediansAt n + g) k b 0 m ∙ kept .rest k o
+
+  found-here : Middle (λ (j : ℕ). getD xs (gatheredAt n + (4 * s + j)) 0) (4 * (e - s)) b
+  found-here = let len : 4 * (e - s) ≡ length (midOf (runAt n s) (runAt n e - runAt n s) ys) = omega (arith, size, run .some) in rw len (middle-same (λ j h. sym (was j (omega (arith, len)))) found)
+    where
+      was : (j : ℕ) → j < 4 * (e - s) → getD (midOf (runAt n s) (runAt n e - runAt n s) ys) j 0 ≡ getD xs (gatheredAt n + (4 * s + j)) 0
+      was j h =
+          getD-take (runAt n e - runAt n s) (drop (runAt n s) ys) j 0 (omega arith) ∙ getD-drop (runAt n s) ys j 0
+          ∙ ap (λ (i : ℕ). getD ys i 0) (omega arith) ∙ t .ahead (4 * s + j) (omega arith) (omega (arith, run .within))
+
+  central-here : (k : ℕ) → s ≤ k → k < e → Central n xs after k
+  central-here k from to =
+      let same : wordOf xs (sortedAt n) 1 k ≡ g = r .alike k from to ∙ sym group-is in
+      record { s = s; e = e; run = r; from = from; to = to; is = rw (same, getD-set-same back (mediansAt n + g) b 0 stored-lt) found-here }
+
+  central-all : (k : ℕ) → k < e → Dec (k < s) → Central n xs after k
+  central-all k h (yes l) = central-earlier (still _ (λ j m i. omega (arith, run .within)) (λ i. omega (arith, group-is, r .before k l))) (t .centred .central k l)
+  central-all k h (no l) = central-here k (omega arith) h
+
+  pub runs-more : RunsTo n e xs after
+  runs-more = record {
+    within = run .within;
+    centred = record {
+      len = length-set back (mediansAt n + g) b ∙ kept .len ∙ t .centred .len;
+      rest = λ k o u. still k (λ j l i. o (4 * s + j) (omega (arith, run .within)) (omega arith)) (λ i. u g small i) ∙ t .centred .rest k o u;
+      central = λ k h. central-all k h (decLt k s);
+    };
+    ahead = λ j h l. still (gatheredAt n + j) (λ i m k. omega arith) (λ i. omega arith) ∙ t .ahead j (omega (arith, run .some)) l;
+    begins = run-next r;
+  }

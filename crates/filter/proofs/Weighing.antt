@@ -1,106 +1,120 @@
--- From the groups of the quads, their records, the records in order and the middle of each run: the groups of the records ascend, and
--- each group's median stands in its place, while marks, groups and lengths are as they were. Assumes nothing.
+-- From the groups of the quads, their records, the records by group, the lengths by group and the middle one of each run: the groups of the
+-- records ascend, and each group's median stands in its place, while marks, groups and lengths are as they were. Assumes nothing.
 use mathlib.Core.Path.{_≡_, sym, ap, _∙_}
 use mathlib.Core.List.{List}
-use Prim.Native.Nat.{ℕ, _+_, _*_, _-_, _/_, _≤_, _<_}
+use Prim.Native.Nat.{ℕ, _+_, _*_, _/_, _≤_, _<_}
 use native.Mathlib.Omega.{arith}
 use lib.ListN.{length, getD}
-use Rattle.words.specs.inner.Regions.{Outside}
-use Rattle.words.specs.inner.Order.{wordOf, Ordered, groupedOf}
+use Rattle.words.specs.inner.Regions.{Outside, Filled}
+use Rattle.words.specs.Sorting.{Sorting}
+use Rattle.words.specs.inner.Order.{wordOf, groupOf}
+use Rattle.words.specs.inner.Digits.{Passed}
 use Rattle.words.proofs.Cuts.{ascends}
 use Rattle.cells.proofs.Groups.{groups-same}
 use Rattle.mesh.specs.Lists.{mostQuads}
-use Rattle.cells.specs.inner.Table.{groupsAt, tableAt}
+use Rattle.cells.specs.inner.Table.{groupsAt}
 use Rattle.cells.specs.inner.Sides.{Grouped}
-use Rattle.filter.specs.inner.Layout.{orderingAt, lengthsAt, mediansAt}
-use Rattle.filter.specs.inner.Steps.{Recorded, Rising, Centred, Middle, MiddleWord, Weighed}
-use Rattle.filter.proofs.Middle.{keyed, middle-word}
+use Rattle.filter.specs.inner.Layout.{recordsAt, sortedAt, gatheredAt, lengthsAt, mediansAt}
+use Rattle.filter.specs.inner.Steps.{Recorded, gathered, Rising, Central, Centred, MiddleWord, Weighed}
+use Rattle.filter.proofs.Middle.{middle-word}
 
-module _ (quads : List ℕ) (n : ℕ) (xs gs rs os : List ℕ) (few : n ≤ mostQuads) (grouped : Grouped 4 quads n xs gs) (recorded : Recorded n (4 * n) gs rs) (ordered : Ordered (groupedOf rs (tableAt n)) rs os (tableAt n) (orderingAt n) (4 * n)) (fits : (k : ℕ) → getD rs k 0 < 4294967296) where
-  -- record e is of the group of its quad, which is below n
-  group-small : (e : ℕ) → e < 4 * n → getD gs (groupsAt n + e / 4) 0 < n
-  group-small e h = omega (arith, grouped .groups .lowest (e / 4) (omega arith))
+module _ (quads : List ℕ) (n : ℕ) (xs gs rs os : List ℕ) (few : n ≤ mostQuads) (grouped : Grouped 4 quads n xs gs) (recorded : Recorded n n gs rs) (sorted : Passed (groupOf rs (recordsAt n)) rs os (recordsAt n) (sortedAt n) n) where
+  abbrev order : Sorting (groupOf rs (recordsAt n)) n
+  order = sorted .arranged .order
 
-  key-is : (e : ℕ) → e < 4 * n → groupedOf rs (tableAt n) e ≡ keyed (getD gs (groupsAt n + e / 4) 0) (wordOf rs (tableAt n) 0 e)
-  key-is e h = let g = recorded .groups e h in let s = group-small e h in omega arith
+  -- the group of a quad is below n
+  small : (q : ℕ) → q < n → getD gs (groupsAt n + q) 0 < n
+  small q h = omega (arith, grouped .groups .lowest q h)
 
-  -- the group of the record that stands at place k
-  group-at : (k : ℕ) → k < 4 * n → wordOf os (tableAt n) 1 k ≡ getD gs (groupsAt n + ordered .order .from k / 4) 0
-  group-at k h = ordered .words k 1 h (omega arith) ∙ recorded .groups (ordered .order .from k) (ordered .order .from-lt k h)
+  key-is : (q : ℕ) → q < n → groupOf rs (recordsAt n) q ≡ getD gs (groupsAt n + q) 0
+  key-is q h = omega (arith, recorded .groups q h, small q h)
 
-  pub rises : Rising n os
-  rises = record { rising = go; small = λ k h. rw (group-at k h) (group-small (ordered .order .from k) (ordered .order .from-lt k h)) }
-    where
-      go : (j k : ℕ) → j ≤ k → k < 4 * n → wordOf os (tableAt n) 1 j ≤ wordOf os (tableAt n) 1 k
-      go j k h l =
-          let i : j < 4 * n = omega arith in
-          omega (arith, ascends (ordered .order) j k h l, group-at j i, group-at k l, key-is (ordered .order .from j) (ordered .order .from-lt j i), key-is (ordered .order .from k) (ordered .order .from-lt k l), fits (tableAt n + 2 * ordered .order .from j + 0), fits (tableAt n + 2 * ordered .order .from k + 0))
+  -- the quad whose record stands at place k, and its group
+  number-at : (k : ℕ) → k < n → wordOf os (sortedAt n) 0 k ≡ order .from k
+  number-at k h = sorted .arranged .words k 0 h (omega arith) ∙ recorded .numbers (order .from k) (order .from-lt k h)
 
-  module _ (whole : length quads ≡ 4 * n) (ms : List ℕ) (centred : Centred n (4 * n) os ms) where
-    -- what is before the table, and the lengths, are still as the groups left them
-    still : (k : ℕ) → Outside (tableAt n) (16 * n) k → k < mediansAt n → getD ms k 0 ≡ getD gs k 0
-    still k o h =
-        centred .kept .rest k (λ j l e. omega arith)
-        ∙ ordered .rest k (λ j l e. o j (omega arith) e) (λ j l e. o (8 * n + j) (omega arith) (omega arith))
+  group-at : (k : ℕ) → k < n → wordOf os (sortedAt n) 1 k ≡ getD gs (groupsAt n + order .from k) 0
+  group-at k h = sorted .arranged .words k 1 h (omega arith) ∙ recorded .groups (order .from k) (order .from-lt k h)
+
+  pub numbers-small : (k : ℕ) → k < n → wordOf os (sortedAt n) 0 k < n
+  numbers-small k h = omega (arith, number-at k h, order .from-lt k h)
+
+  module _ (ls : List ℕ) (filled : Filled os ls (gatheredAt n) (4 * n) (4 * n) (gathered os n)) where
+    -- the records have not moved
+    record-still : (c k : ℕ) → c < 2 → k < n → wordOf ls (sortedAt n) c k ≡ wordOf os (sortedAt n) c k
+    record-still c k b h = filled .kept .rest (sortedAt n + 2 * k + c) (λ j l e. omega arith)
+
+    group-in : (k : ℕ) → k < n → wordOf ls (sortedAt n) 1 k ≡ getD gs (groupsAt n + order .from k) 0
+    group-in k h = record-still 1 k (omega arith) h ∙ group-at k h
+
+    pub rises : Rising n ls
+    rises = record { rising = go; small = λ k h. rw (group-in k h) (small (order .from k) (order .from-lt k h)) }
+      where
+        go : (j k : ℕ) → j ≤ k → k < n → wordOf ls (sortedAt n) 1 j ≤ wordOf ls (sortedAt n) 1 k
+        go j k h l =
+            let i : j < n = omega arith in
+            omega (arith, ascends order j k h l, group-in j i, group-in k l, key-is (order .from j) (order .from-lt j i), key-is (order .from k) (order .from-lt k l))
+
+    -- before the records, and from the lengths up to the medians, nothing moves until the medians are found
+    still-gathered : (k : ℕ) → Outside (recordsAt n) (8 * n) k → k < mediansAt n → getD ls k 0 ≡ getD gs k 0
+    still-gathered k o h =
+        filled .kept .rest k (λ j l e. o (4 * n + j) (omega arith) (omega arith))
+        ∙ sorted .kept .rest k (λ j l e. o (2 * n + j) (omega arith) (omega arith))
         ∙ recorded .kept .rest k (λ j l e. o j (omega arith) e)
-
-    still-group : (q : ℕ) → q < n → getD ms (groupsAt n + q) 0 ≡ getD gs (groupsAt n + q) 0
-    still-group q h = still (groupsAt n + q) (λ j l e. omega arith) (omega arith)
 
     unmoved-length : (e : ℕ) → e < 4 * n → getD gs (lengthsAt n + e) 0 ≡ getD xs (lengthsAt n + e) 0
     unmoved-length e h = grouped .rest (lengthsAt n + e) (omega arith)
 
-    abbrev groupOf : ℕ → ℕ
-    groupOf e = getD ms (groupsAt n + e / 4) 0
+    module _ (whole : length quads ≡ 4 * n) (fits : (k : ℕ) → getD xs k 0 < 4294967296) (ms : List ℕ) (centred : Centred n n ls ms) where
+      still : (k : ℕ) → Outside (recordsAt n) (8 * n) k → k < mediansAt n → getD ms k 0 ≡ getD gs k 0
+      still k o h = centred .rest k (λ j l e. o (4 * n + j) (omega arith) (omega arith)) (λ j l e. omega arith) ∙ still-gathered k o h
 
-    abbrev lengthOf : ℕ → ℕ
-    lengthOf e = getD xs (lengthsAt n + e) 0
+      still-group : (q : ℕ) → q < n → getD ms (groupsAt n + q) 0 ≡ getD gs (groupsAt n + q) 0
+      still-group q h = still (groupsAt n + q) (λ j l e. omega arith) (omega arith)
 
-    length-is : (e : ℕ) → e < 4 * n → wordOf rs (tableAt n) 0 e ≡ lengthOf e
-    length-is e h = recorded .lengths e h ∙ unmoved-length e h
+      abbrev groupIn : ℕ → ℕ
+      groupIn q = getD ms (groupsAt n + q) 0
 
-    group-is : (e : ℕ) → e < 4 * n → getD gs (groupsAt n + e / 4) 0 ≡ groupOf e
-    group-is e h = sym (still-group (e / 4) (omega arith))
+      abbrev lengthOf : ℕ → ℕ
+      lengthOf e = getD xs (lengthsAt n + e) 0
 
-    median : (q : ℕ) → q < n → Middle n os ms (ordered .order .to (4 * q)) → MiddleWord groupOf lengthOf (4 * n) (getD ms (groupsAt n + q) 0) (getD ms (mediansAt n + getD ms (groupsAt n + q) 0) 0)
-    median q h m = rw (group-q, median-q) at word
-      where
-        k : ℕ
-        k = ordered .order .to (4 * q)
+      -- the length at place j of the four of record k
+      length-at : (k j : ℕ) → k < n → j < 4 → getD ls (gatheredAt n + (4 * k + j)) 0 ≡ lengthOf (4 * order .from k + j)
+      length-at k j h b =
+          let f = order .from-lt k h in
+          filled .holds (4 * k + j) (omega arith)
+          ∙ ap (λ (i : ℕ). getD os (lengthsAt n + i) 0) (omega (arith, number-at k h, ap (λ (i : ℕ). wordOf os (sortedAt n) 0 i) quotient))
+          ∙ sym (filled .kept .rest (lengthsAt n + (4 * order .from k + j)) (λ i l e. omega arith))
+          ∙ still-gathered (lengthsAt n + (4 * order .from k + j)) (λ i l e. omega arith) (omega arith)
+          ∙ unmoved-length (4 * order .from k + j) (omega arith)
+        where
+          quotient : (4 * k + j) / 4 ≡ k
+          quotient = omega arith
 
-        mid : ℕ
-        mid = m .s + (m .e - m .s) / 2
+      median : (q : ℕ) → q < n → Central n ls ms (order .to q) → MiddleWord (λ (e : ℕ). groupIn (e / 4)) lengthOf (4 * n) (groupIn q) (getD ms (mediansAt n + groupIn q) 0)
+      median q h m = rw (group-q, group-k) at word
+        where
+          k : ℕ
+          k = order .to q
 
-        mid-lt : mid < 4 * n
-        mid-lt = omega (arith, m .run .some, m .run .within)
+          word : MiddleWord (λ (e : ℕ). groupIn (e / 4)) lengthOf (4 * n) (wordOf ls (sortedAt n) 1 (m .s)) (getD ms (mediansAt n + wordOf ls (sortedAt n) 1 k) 0)
+          word =
+              middle-word groupIn lengthOf (groupOf rs (recordsAt n)) (wordOf ls (sortedAt n) 1) (λ (j : ℕ). getD ls (gatheredAt n + j) 0) n order
+              (λ p l. key-is p l ∙ sym (still-group p l))
+              (λ j l. group-in j l ∙ sym (still-group (order .from j) (order .from-lt j l)))
+              length-at (λ e l. fits (lengthsAt n + e)) (m .s) (m .e) (m .run) _ (m .is)
 
-        word : MiddleWord groupOf lengthOf (4 * n) (wordOf os (tableAt n) 1 (m .s)) (lengthOf (ordered .order .from mid))
-        word =
-            middle-word groupOf lengthOf (groupedOf rs (tableAt n)) (wordOf os (tableAt n) 1) (4 * n) (ordered .order)
-            (λ e l. omega (arith, key-is e l, group-is e l, length-is e l))
-            (λ e l. omega (arith, length-is e l, fits (tableAt n + 2 * e + 0)))
-            (λ j l. group-at j l ∙ group-is (ordered .order .from j) (ordered .order .from-lt j l))
-            (m .s) (m .e) (m .run)
+          group-k : wordOf ls (sortedAt n) 1 k ≡ groupIn q
+          group-k = group-in k (order .to-lt q h) ∙ ap (λ (j : ℕ). getD gs (groupsAt n + j) 0) (order .from-to q h) ∙ sym (still-group q h)
 
-        group-k : wordOf os (tableAt n) 1 k ≡ getD ms (groupsAt n + q) 0
-        group-k =
-            group-at k (ordered .order .to-lt (4 * q) (omega arith))
-            ∙ ap (λ (j : ℕ). getD gs (groupsAt n + j) 0) (omega (arith, ordered .order .from-to (4 * q) (omega arith))) ∙ sym (still-group q h)
+          group-q : wordOf ls (sortedAt n) 1 (m .s) ≡ groupIn q
+          group-q = sym (m .run .alike k (m .from) (m .to)) ∙ group-k
 
-        group-q : wordOf os (tableAt n) 1 (m .s) ≡ getD ms (groupsAt n + q) 0
-        group-q = sym (m .run .alike k (m .from) (m .to)) ∙ group-k
-
-        median-q : lengthOf (ordered .order .from mid) ≡ getD ms (mediansAt n + getD ms (groupsAt n + q) 0) 0
-        median-q =
-            sym (length-is (ordered .order .from mid) (ordered .order .from-lt mid mid-lt))
-            ∙ sym (ordered .words mid 0 mid-lt (omega arith)) ∙ sym (m .is)
-            ∙ ap (λ (g : ℕ). getD ms (mediansAt n + g) 0) group-k
-
-    pub weighed : Weighed quads n xs ms
-    weighed = record {
-      len = centred .kept .len ∙ ordered .len ∙ recorded .kept .len ∙ grouped .len;
-      marks = λ k h. still k (λ j l e. omega arith) (omega arith) ∙ grouped .marks k h;
-      lengths = λ e h. still (lengthsAt n + e) (λ j l i. omega arith) (omega arith) ∙ unmoved-length e h;
-      groups = groups-same (λ p q e. (omega (arith, e .from), omega (arith, e .to))) (λ q h. sym (still-group q h)) (grouped .groups);
-      medians = λ q h. median q h (centred .middle (ordered .order .to (4 * q)) (ordered .order .to-lt (4 * q) (omega arith)));
-    }
+      pub weighed : Weighed quads n xs ms
+      weighed = record {
+        len = centred .len ∙ filled .kept .len ∙ sorted .kept .len ∙ recorded .kept .len ∙ grouped .len;
+        marks = λ k h. still k (λ j l e. omega arith) (omega arith) ∙ grouped .marks k h;
+        lengths = λ e h. still (lengthsAt n + e) (λ j l i. omega arith) (omega arith) ∙ unmoved-length e h;
+        groups = groups-same (λ p q e. (omega (arith, e .from), omega (arith, e .to))) (λ q h. sym (still-group q h)) (grouped .groups);
+        medians = λ q h. median q h (centred .central (order .to q) (order .to-lt q h));
+      }

@@ -1,10 +1,13 @@
 // Where the filters keep what in the workspace, as specs/inner/Layout says: how many words for each quad stand before it.
 
-// The table of records that the third rule orders.
-pub(crate) const TABLE: usize = 2;
+// A record for each quad.
+pub(crate) const RECORDS: usize = 2;
 
-// The room for the table's ordering.
-pub(crate) const ORDERING: usize = 10;
+// The records by group.
+pub(crate) const SORTED: usize = 4;
+
+// The lengths by group.
+pub(crate) const GATHERED: usize = 6;
 
 // The lengths of all sides.
 pub(crate) const LENGTHS: usize = 18;

@@ -1,52 +1,67 @@
 // The third rule: quads of the wrong size in their group, by the median of the group's sides.
 ghost use mathlib.Core.Path.{_≡_};
-ghost use Prim.Native.Nat.{ℕ, _+_, _-_, _*_, _/_, _≤_, _<_};
+ghost use Prim.Native.Nat.{ℕ, _+_, _*_, _/_, _≤_, _<_};
 ghost use lib.ListN.{length, getD};
 ghost use Rattle.words.specs.inner.Order.{wordOf};
 ghost use Rattle.words.specs.inner.Regions.{Filled};
-ghost use Rattle.cells.specs.inner.Table.{Sound, groupsAt, tableAt};
+ghost use Rattle.cells.specs.inner.Table.{Sound, groupsAt};
 ghost use Rattle.mesh.specs.Lists.{mostQuads};
-ghost use Rattle.filter.specs.inner.Layout.{orderingAt, lengthsAt, mediansAt};
+ghost use Rattle.filter.specs.inner.Layout.{sortedAt, gatheredAt, lengthsAt, mediansAt};
 ghost use Rattle.filter.specs.Size.{isSkipped, offSide, offSize};
-ghost use Rattle.filter.specs.inner.Steps.{lengthIn, sizeMark, Recorded, Rising, Run, Centred, Weighed, Sized};
+ghost use Rattle.filter.specs.inner.Steps.{lengthIn, sizeMark, Recorded, gathered, Rising, Run, Centred, Weighed, Sized};
 use crate::FilterParams;
+use crate::layout::GATHERED;
 use crate::layout::LENGTHS;
 use crate::layout::MEDIANS;
-use crate::layout::ORDERING;
-use crate::layout::TABLE;
+use crate::layout::RECORDS;
+use crate::layout::SORTED;
 use crate::lengths::length_at;
 use cells::inner::groups;
 use measure::inner::float_of;
 use measure::inner::is_finite;
-use words::inner::order::order_in_groups;
 use words::inner::order::put;
+use words::inner::order::sort_by_group;
+use words::inner::select::middle_word;
 use words::inner::wide;
 
-// A record for every side: its length, and the group of its quad.
+// A record for every quad: its number and its group.
 fn write_records(work: &mut [u32], n: usize)
+    requires { ⌜ (sortedAt n ≤ length (now work)) × (n ≤ mostQuads) ⌝ }
+    ensures { λ _. ⌜ Recorded n n (now (work .entry)) (now (work .exit)) ⌝ }
+{
+    let mut q = 0;
+    while q < n {
+        let group = work[n + q];
+        put(work, RECORDS * n + 2 * q, q as u32, group);
+        q += 1;
+    }
+}
+
+// The lengths of all sides, in the order of the records of their quads.
+fn gather_lengths(work: &mut [u32], n: usize)
     requires { ⌜ mediansAt n ≤ length (now work) ⌝ }
-    ensures { λ _. ⌜ Recorded n (4 * n) (now (work .entry)) (now (work .exit)) ⌝ }
+    requires { ⌜ ((k : ℕ) → k < n → wordOf (now work) (sortedAt n) 0 k < n) ⌝ }
+    ensures { λ _. ⌜ Filled (now (work .entry)) (now (work .exit)) (gatheredAt n) (4 * n) (4 * n) (gathered (now (work .entry)) n) ⌝ }
 {
     let mut e = 0;
     while e < 4 * n {
-        let length = work[LENGTHS * n + e];
-        let group = work[n + e / 4];
-        put(work, TABLE * n + 2 * e, length, group);
+        let q = wide(work[SORTED * n + 2 * (e / 4)]);
+        work[GATHERED * n + e] = work[LENGTHS * n + (4 * q + e % 4)];
         e += 1;
     }
 }
 
-// Where the run of one group that begins at record s ends, of n quads' records in order.
+// Where the run of one group that begins at record s ends, of n records by group.
 fn run_end(work: &[u32], n: usize, s: usize) -> usize
-    requires { ⌜ (s < 4 * n) × (orderingAt n ≤ length (now work)) ⌝ }
+    requires { ⌜ (s < n) × (gatheredAt n ≤ length (now work)) ⌝ }
     requires { ⌜ Rising n (now work) ⌝ }
-    requires { ⌜ ((k : ℕ) → k < s → wordOf (now work) (tableAt n) 1 k < wordOf (now work) (tableAt n) 1 s) ⌝ }
-    ensures { λ r. ⌜ Run (wordOf (now (work .entry)) (tableAt n) 1) (4 * n) s r ⌝ }
+    requires { ⌜ ((k : ℕ) → k < s → wordOf (now work) (sortedAt n) 1 k < wordOf (now work) (sortedAt n) 1 s) ⌝ }
+    ensures { λ r. ⌜ Run (wordOf (now (work .entry)) (sortedAt n) 1) n s r ⌝ }
 {
-    let group = work[TABLE * n + 2 * s + 1];
+    let group = work[SORTED * n + 2 * s + 1];
     let mut e = s + 1;
-    while e < 4 * n {
-        if work[TABLE * n + 2 * e + 1] != group {
+    while e < n {
+        if work[SORTED * n + 2 * e + 1] != group {
             return e;
         }
         e += 1;
@@ -54,26 +69,18 @@ fn run_end(work: &[u32], n: usize, s: usize) -> usize
     e
 }
 
-// The middle one of the places from s up to e; of an even number the higher.
-fn middle(s: usize, e: usize) -> usize
-    requires { ⌜ s < e ⌝ }
-    ensures { λ r. ⌜ r ≡ s + (e - s) / 2 ⌝ }
-{
-    s + (e - s) / 2
-}
-
-// Each group's median: the middle one of its run of records.
+// Each group's median: the middle one of its run's lengths, which are divided where they stand.
 fn write_medians(work: &mut [u32], n: usize)
     requires { ⌜ mediansAt n + n ≤ length (now work) ⌝ }
     requires { ⌜ Rising n (now work) ⌝ }
-    ensures { λ _. ⌜ Centred n (4 * n) (now (work .entry)) (now (work .exit)) ⌝ }
+    ensures { λ _. ⌜ Centred n n (now (work .entry)) (now (work .exit)) ⌝ }
 {
     let mut s = 0;
-    while s < 4 * n {
+    while s < n {
         let e = run_end(work, n, s);
-        let group = wide(work[TABLE * n + 2 * s + 1]);
-        let mid = middle(s, e);
-        work[MEDIANS * n + group] = work[TABLE * n + 2 * mid];
+        let group = wide(work[SORTED * n + 2 * s + 1]);
+        let median = middle_word(&mut work[GATHERED * n + 4 * s..GATHERED * n + 4 * e]);
+        work[MEDIANS * n + group] = median;
         s = e;
     }
 }
@@ -156,7 +163,8 @@ fn write_groups(quads: &[u32], work: &mut [u32], n: usize)
 {
     groups(quads, 4, n, work);
     write_records(work, n);
-    order_in_groups(work, TABLE * n, ORDERING * n, 4 * n);
+    sort_by_group(work, RECORDS * n, SORTED * n, n);
+    gather_lengths(work, n);
     write_medians(work, n);
 }
 

@@ -7,3 +7,6 @@ pub mod Regions
 pub mod Digits
 pub mod Moving
 pub mod Composing
+pub mod Counting
+pub mod Dividing
+pub mod Narrowing

@@ -1,3 +1,4 @@
 pub mod Regions
 pub mod Order
+pub mod Middle
 pub mod Digits

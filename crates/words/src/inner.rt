@@ -1,8 +1,9 @@
-// Words as numbers of other widths, clearing a list of words, and ordering records in one.
+// Words as numbers of other widths, clearing a list of words, ordering records in one, and the middle one of a list.
 ghost use mathlib.Core.Path.{_≡_};
 ghost use lib.ListN.{length, replicate};
 
 pub mod order;
+pub mod select;
 
 // A word of a list as a place in one.
 pub fn wide(word: u32) -> usize

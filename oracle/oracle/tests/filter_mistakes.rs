@@ -1,9 +1,11 @@
 // Mistakes in the filters: each gives another answer to some of the filter vectors.
 
 mod common {
+    pub mod division;
     pub mod mistakes;
 }
 
+use common::division::{Division, DIVISION};
 use common::mistakes::{each_is_told, Mistake};
 use oracle::vectors::filters::{filter_cases, Case};
 use oracle::vectors::{moved, OverQuads, Vector};
@@ -22,6 +24,8 @@ struct Rules {
     /// The groups are of the quads that so many filters have left.
     groups_after: usize,
     sides: fn(&[Quad]) -> Vec<(u32, u32)>,
+    /// The lengths that have a group's median, of those of every group and the group's number.
+    run: fn(&[Vec<f32>], usize) -> Vec<f32>,
     middle: fn(&[f32]) -> f32,
     zero_keeps: bool,
     skipped: fn(f32, f32) -> bool,
@@ -51,6 +55,17 @@ fn uneven([a, b, c, d]: Sides, limit: f32, tiny: f32) -> bool {
     raised(a, c, tiny) > limit || raised(b, d, tiny) > limit
 }
 
+/// The length at a place in order.
+fn at(run: &[f32], place: usize) -> f32 {
+    let mut sorted = run.to_vec();
+    sorted.sort_by(f32::total_cmp);
+    sorted[place]
+}
+
+fn median(run: &[f32]) -> f32 {
+    at(run, run.len() / 2)
+}
+
 const RIGHT: Rules = Rules {
     most_incidence: 8,
     illegal_corners: 2,
@@ -60,7 +75,8 @@ const RIGHT: Rules = Rules {
     joined: share_a_side,
     groups_after: 2,
     sides: |group| group.iter().flat_map(ends).collect(),
-    middle: |sorted| sorted[sorted.len() / 2],
+    run: |runs, own| runs[own].clone(),
+    middle: median,
     zero_keeps: true,
     skipped: |least, greatest| (least <= 0.0) && !greatest.is_finite(),
     short: |side, least, median| least > 0.0 && side < least * median,
@@ -86,27 +102,41 @@ impl Rules {
         quads.iter().copied().filter(|q| !(self.uneven)(sides(q), limit)).collect()
     }
 
-    /// The group of a quad among others.
-    fn group(&self, quad: Quad, others: &[Quad]) -> Vec<Quad> {
-        let mut met: Vec<bool> = others.iter().map(|q| *q == quad).collect();
-        let mut todo = vec![quad];
-        while let Some(p) = todo.pop() {
-            for (q, met) in others.iter().zip(&mut met).filter(|(_, met)| !**met) {
-                if (self.joined)(&p, q) {
-                    *met = true;
-                    todo.push(*q);
-                }
+    /// The groups, each in rising order, by their lowest quads.
+    fn groups(&self, quads: &[Quad]) -> Vec<Vec<usize>> {
+        let (mut left, mut groups) = ((0..quads.len()).collect::<Vec<_>>(), Vec::new());
+        while !left.is_empty() {
+            let mut group = vec![left.remove(0)];
+            let mut next = 0;
+            while let Some(&p) = group.get(next) {
+                let joined = |&mut q: &mut usize| (self.joined)(&quads[p], &quads[q]);
+                group.extend(left.extract_if(.., joined));
+                next += 1;
             }
+            group.sort();
+            groups.push(group);
         }
-        others.iter().zip(met).filter(|(_, met)| *met).map(|(q, _)| *q).collect()
+        groups
     }
 
-    fn fits(&self, case: &Case, quad: &Quad, others: &[Quad]) -> bool {
+    /// The median of each quad's group.
+    fn medians(&self, case: &Case, quads: &[Quad]) -> Vec<f32> {
+        let groups = self.groups(quads);
+        let run = |group: &Vec<usize>| -> Vec<f32> {
+            let members: Vec<Quad> = group.iter().map(|&q| quads[q]).collect();
+            (self.sides)(&members).iter().map(|&side| self.between(case, side)).collect()
+        };
+        let runs: Vec<Vec<f32>> = groups.iter().map(run).collect();
+        let mut medians = vec![0.0; quads.len()];
+        for (own, group) in groups.iter().enumerate() {
+            let median = (self.middle)(&(self.run)(&runs, own));
+            group.iter().for_each(|&q| medians[q] = median);
+        }
+        medians
+    }
+
+    fn fits(&self, case: &Case, quad: &Quad, median: f32) -> bool {
         let params = &case.frame.params;
-        let sides = (self.sides)(&self.group(*quad, others));
-        let mut lengths: Vec<f32> = sides.iter().map(|&side| self.between(case, side)).collect();
-        lengths.sort_by(f32::total_cmp);
-        let median = (self.middle)(&lengths);
         if median == 0.0 && self.zero_keeps {
             return true;
         }
@@ -128,7 +158,10 @@ impl Rules {
             return even;
         }
         let others = [&input, &legal, &even][self.groups_after];
-        even.iter().copied().filter(|q| self.fits(case, q, others)).collect()
+        let medians = self.medians(case, others);
+        let median =
+            |quad: &Quad| others.iter().position(|q| q == quad).map_or(0.0, |q| medians[q]);
+        even.iter().copied().filter(|q| self.fits(case, q, median(q))).collect()
     }
 }
 
@@ -232,12 +265,12 @@ const SIZES: [Mistake<Rules>; 17] = [
             once.into_iter().collect()
         }
     }),
-    ("the lower middle", |r| r.middle = |sorted| sorted[(sorted.len() - 1) / 2]),
+    ("the lower middle", |r| r.middle = |run| at(run, (run.len() - 1) / 2)),
     ("the mean of the middle two", |r| {
-        r.middle = |sorted| (sorted[sorted.len() / 2 - 1] + sorted[sorted.len() / 2]) / 2.0
+        r.middle = |run| (at(run, run.len() / 2 - 1) + median(run)) / 2.0
     }),
-    ("the one after the middle", |r| r.middle = |sorted| sorted[sorted.len() / 2 + 1]),
-    ("the mean", |r| r.middle = |sorted| sorted.iter().sum::<f32>() / sorted.len() as f32),
+    ("the one after the middle", |r| r.middle = |run| at(run, run.len() / 2 + 1)),
+    ("the mean", |r| r.middle = |run| run.iter().sum::<f32>() / run.len() as f32),
     ("a median of 0 judges", |r| r.zero_keeps = false),
     ("never skipped, with a greatest that may be infinite", |r| {
         r.skipped = |_, _| false;
@@ -273,15 +306,85 @@ const SIZES: [Mistake<Rules>; 17] = [
     ("three sides of four judged", |r| r.sides_judged = 3),
 ];
 
+/// The lengths of a group and some of its neighbour's, if it has one.
+fn with_next(runs: &[Vec<f32>], own: usize, more: usize) -> Vec<f32> {
+    let next = runs.get(own + 1).map_or(&[][..], |next| &next[..more]);
+    [&runs[own], next].concat()
+}
+
+/// All but the lengths of one quad, where a group has several.
+fn short_of(run: &[f32], left_out: std::ops::Range<usize>) -> Vec<f32> {
+    let kept = |place: &usize| run.len() == 4 || !left_out.contains(place);
+    (0..run.len()).filter(kept).map(|place| run[place]).collect()
+}
+
+const RUNS: [Mistake<Rules>; 9] = [
+    ("the first of the run", |r| r.middle = |run| run[0]),
+    ("the last of the run", |r| r.middle = |run| run[run.len() - 1]),
+    ("the middle of the run as it stands", |r| r.middle = |run| run[run.len() / 2]),
+    ("the median of the next group", |r| {
+        r.run = |runs, own| runs.get(own + 1).unwrap_or(&runs[own]).clone()
+    }),
+    ("the median of the group before", |r| r.run = |runs, own| runs[own.saturating_sub(1)].clone()),
+    ("a run without its first quad", |r| r.run = |runs, own| short_of(&runs[own], 0..4)),
+    ("a run without its last quad", |r| {
+        r.run = |runs, own| short_of(&runs[own], runs[own].len() - 4..runs[own].len())
+    }),
+    ("a run with the next word", |r| r.run = |runs, own| with_next(runs, own, 1)),
+    ("a run with the next quad", |r| r.run = |runs, own| with_next(runs, own, 4)),
+];
+
+const DIVISIONS: [Mistake<Rules>; 11] = [
+    ("the middle of the range", |r| {
+        r.middle = |run| {
+            let (least, greatest) = (at(run, 0).to_bits(), at(run, run.len() - 1).to_bits());
+            f32::from_bits((least + greatest) / 2)
+        }
+    }),
+    ("ends with 256 words, the lowest", |r| {
+        r.middle = |run| Division { last: 256, ..DIVISION }.middle(run)
+    }),
+    ("ends with 256 words, the highest", |r| {
+        r.middle = |run| Division { last: 256, end: |_, high| high, ..DIVISION }.middle(run)
+    }),
+    ("ends with two words, the lower", |r| {
+        r.middle = |run| Division { last: 2, ..DIVISION }.middle(run)
+    }),
+    ("ends with two words, the higher", |r| {
+        r.middle = |run| Division { last: 2, end: |_, high| high, ..DIVISION }.middle(run)
+    }),
+    ("a range's middle in the upper side", |r| {
+        r.middle = |run| Division { low: |word, middle| word < middle, ..DIVISION }.middle(run)
+    }),
+    ("a place past the lower side in it", |r| {
+        r.middle = |run| Division { inside: |place, count| place <= count, ..DIVISION }.middle(run)
+    }),
+    ("a place in the upper side from the start", |r| {
+        r.middle = |run| Division { rest: |place, _| place, ..DIVISION }.middle(run)
+    }),
+    ("the highest bit that a length has left out", |r| {
+        r.middle = |run| {
+            let mut sorted = run.to_vec();
+            sorted.sort_by_key(|length| length.to_bits() & 0x3FFF_FFFF);
+            sorted[sorted.len() / 2]
+        }
+    }),
+    ("a float below", |r| r.middle = |run| f32::from_bits(median(run).to_bits().saturating_sub(1))),
+    ("a float above", |r| r.middle = |run| moved(median(run), 1)),
+];
+
 #[test]
 fn the_rules_are_right() {
     for (case, kept) in accepted() {
         assert_eq!(RIGHT.kept(&case).concat(), kept);
+        let divided = Rules { middle: |run| DIVISION.middle(run), ..RIGHT };
+        assert_eq!(divided.kept(&case).concat(), kept);
     }
 }
 
 #[test]
 fn every_mistake_is_told() {
-    let mistakes = [&CROWDS_AND_RATIOS[..], &LENGTHS_AND_GROUPS, &SIZES].concat();
+    let mistakes =
+        [&CROWDS_AND_RATIOS[..], &LENGTHS_AND_GROUPS, &SIZES, &RUNS, &DIVISIONS].concat();
     each_is_told(|| RIGHT, &mistakes, &accepted(), |rules, case| rules.kept(case).concat());
 }

@@ -1,10 +1,16 @@
--- Where the filters keep what in the workspace, for n quads: marks, groups and the ordered tables as in cells, then the lengths of all
--- sides by their bits, the medians by group, and the incidence of each corner.
+-- Where the filters keep what in the workspace, for n quads: marks and groups as in cells; where its tables were, a record for each quad,
+-- the records by group and the lengths by group; then the lengths of all sides by their bits, the medians by group, and the incidence of
+-- each corner.
 use Prim.Native.Nat.{ℕ, _*_}
 
--- room for the ordering of 4·n records that stand at `tableAt`
-abbrev pub orderingAt : ℕ → ℕ
-orderingAt n = 10 * n
+abbrev pub recordsAt : ℕ → ℕ
+recordsAt n = 2 * n
+
+abbrev pub sortedAt : ℕ → ℕ
+sortedAt n = 4 * n
+
+abbrev pub gatheredAt : ℕ → ℕ
+gatheredAt n = 6 * n
 
 abbrev pub lengthsAt : ℕ → ℕ
 lengthsAt n = 18 * n

@@ -8,16 +8,17 @@ use lib.Ieee as Ieee
 use lib.Ieee.{Float, binary32}
 use lib.ListN.{length, getD}
 use Rattle.words.specs.inner.Order.{wordOf}
-use Rattle.words.specs.inner.Regions.{Kept, Filled}
+use Rattle.words.specs.inner.Regions.{Outside, Kept, Filled}
+use Rattle.words.specs.inner.Middle.{Middle}
 use Rattle.words.specs.Sorting.{one, equal}
 use Rattle.cells.specs.Cells.{Neighbours}
 use Rattle.cells.specs.Groups.{Groups}
-use Rattle.cells.specs.inner.Table.{unmarked, groupsAt, tableAt}
+use Rattle.cells.specs.inner.Table.{unmarked, groupsAt}
 use Rattle.mesh.specs.Lists.{mostCorners, mostQuads}
 use Rattle.mesh.specs.Cells.{namesTwice}
 use Rattle.filter.specs.declared.FilterParams.{FilterParams}
 use Rattle.filter.specs.Input.{Input, quadCount, lengthOfSide}
-use Rattle.filter.specs.inner.Layout.{lengthsAt, mediansAt}
+use Rattle.filter.specs.inner.Layout.{recordsAt, sortedAt, gatheredAt, lengthsAt, mediansAt}
 use Rattle.filter.specs.Opposing.{uneven}
 use Rattle.filter.specs.Size.{isSkipped, offSize}
 use Rattle.filter.specs.Marks.{Marked}
@@ -51,11 +52,15 @@ medianIn work n q = Ieee.ofBits binary32 (getD work (mediansAt n + getD work (gr
 unfoldable pub sizeMark : FilterParams → List ℕ → ℕ → ℕ → ℕ
 sizeMark p work n q = cond (eqb (getD work q 0) 0) (cond (offSize p (medianIn work n q) (lengthIn work n q)) 3 0) (getD work q 0)
 
--- a record for each of the first m sides: its length, and the group of its quad
+-- a record for each of the first m quads: its number, and its group
 pub record Recorded (n m : ℕ) (xs ys : List ℕ) : Type 0 where
-  pub kept : Kept xs ys (tableAt n) (8 * n)
-  pub lengths : (e : ℕ) → e < m → wordOf ys (tableAt n) 0 e ≡ getD xs (lengthsAt n + e) 0
-  pub groups : (e : ℕ) → e < m → wordOf ys (tableAt n) 1 e ≡ getD xs (groupsAt n + e / 4) 0
+  pub kept : Kept xs ys (recordsAt n) (2 * n)
+  pub numbers : (q : ℕ) → q < m → wordOf ys (recordsAt n) 0 q ≡ q
+  pub groups : (q : ℕ) → q < m → wordOf ys (recordsAt n) 1 q ≡ getD xs (groupsAt n + q) 0
+
+-- the lengths in the order of the records: place e has side e % 4 of the quad of record e / 4
+abbrev pub gathered : List ℕ → ℕ → ℕ → ℕ
+gathered work n e = getD work (lengthsAt n + (4 * wordOf work (sortedAt n) 0 (e / 4) + e % 4)) 0
 
 -- of m places with groups, those from s up to e are all that have one group
 pub record Run (group : ℕ → ℕ) (m s e : ℕ) : Type 0 where
@@ -65,24 +70,25 @@ pub record Run (group : ℕ → ℕ) (m s e : ℕ) : Type 0 where
   pub before : (k : ℕ) → k < s → group k < group s
   pub after : (k : ℕ) → e ≤ k → k < m → group s < group k
 
--- the median of the group of place k is the middle one of its run
-pub record Middle (n : ℕ) (xs ys : List ℕ) (k : ℕ) : Type 0 where
+-- the median of the group of record k is the middle one of its run's lengths
+pub record Central (n : ℕ) (xs ys : List ℕ) (k : ℕ) : Type 0 where
   pub s : ℕ
   pub e : ℕ
-  pub run : Run (wordOf xs (tableAt n) 1) (4 * n) s e
+  pub run : Run (wordOf xs (sortedAt n) 1) n s e
   pub from : s ≤ k
   pub to : k < e
-  pub is : getD ys (mediansAt n + wordOf xs (tableAt n) 1 k) 0 ≡ wordOf xs (tableAt n) 0 (s + (e - s) / 2)
+  pub is : Middle (λ (j : ℕ). getD xs (gatheredAt n + (4 * s + j)) 0) (4 * (e - s)) (getD ys (mediansAt n + wordOf xs (sortedAt n) 1 k) 0)
 
--- the groups of the table ascend
+-- the groups of the records ascend
 pub record Rising (n : ℕ) (work : List ℕ) : Type 0 where
-  pub rising : (j k : ℕ) → j ≤ k → k < 4 * n → wordOf work (tableAt n) 1 j ≤ wordOf work (tableAt n) 1 k
-  pub small : (k : ℕ) → k < 4 * n → wordOf work (tableAt n) 1 k < n
+  pub rising : (j k : ℕ) → j ≤ k → k < n → wordOf work (sortedAt n) 1 j ≤ wordOf work (sortedAt n) 1 k
+  pub small : (k : ℕ) → k < n → wordOf work (sortedAt n) 1 k < n
 
--- the medians of the first m places stand in their place, and all else is as it was
+-- the medians of the first m records stand in their place; the lengths by group may have moved, and all else is as it was
 pub record Centred (n m : ℕ) (xs ys : List ℕ) : Type 0 where
-  pub kept : Kept xs ys (mediansAt n) n
-  pub middle : (k : ℕ) → k < m → Middle n xs ys k
+  pub len : length ys ≡ length xs
+  pub rest : (k : ℕ) → Outside (gatheredAt n) (4 * n) k → Outside (mediansAt n) n k → getD ys k 0 ≡ getD xs k 0
+  pub central : (k : ℕ) → k < m → Central n xs ys k
 
 -- how many of the first m places have the group g and a length below b
 unfoldable pub lowerIn : (ℕ → ℕ) → (ℕ → ℕ) → ℕ → ℕ → ℕ → ℕ

@@ -1,5 +1,5 @@
--- `write_groups`: in order of group and length, the middle of each group's run is its median.
-use Rattle.filter.proofs.Weighing.{rises, weighed}
+-- `write_groups`: the records by group, the lengths by group, and the middle one of each group's run is its median.
+use Rattle.filter.proofs.Weighing.{numbers-small, rises, weighed}
 use borrow.Author.Needs.{needs}
 use Rattle.filter.proofs.size.write_groups.Statement.{statement}
 use Rattle.filter.proofs.size.write_groups.Tie as tie
@@ -10,35 +10,39 @@ groups-requires c κs = search needs
 write-records-requires : tie.Need-write-records-requires
 write-records-requires c κs = search needs
 
-mul-order-in-groups : tie.Need-mul-order-in-groups
-mul-order-in-groups c = search needs
+mul-sort-by-group : tie.Need-mul-sort-by-group
+mul-sort-by-group c = search needs
 
-mul-order-in-groups-2 : tie.Need-mul-order-in-groups-2
-mul-order-in-groups-2 c = search needs
+mul-sort-by-group-2 : tie.Need-mul-sort-by-group-2
+mul-sort-by-group-2 c = search needs
 
-mul-order-in-groups-3 : tie.Need-mul-order-in-groups-3
-mul-order-in-groups-3 c = search needs
+sort-by-group-requires : tie.Need-sort-by-group-requires
+sort-by-group-requires c κs = search needs
 
-order-in-groups-requires : tie.Need-order-in-groups-requires
-order-in-groups-requires c κs = search needs
+gather-lengths-requires : tie.Need-gather-lengths-requires
+gather-lengths-requires c κs =
+    let recorded = c .before .before .before .before .before .before .before in
+    let grouped = recorded .before .before .before .before in
+    (search needs, numbers-small _ _ _ _ _ _ (c .before .before .before .before .before .before .before .before .before .before .before .before .before .before .before .pre .1) (grouped .groups .ensures) (recorded .write-records .ensures) (c .before .before .before .sort-by-group .ensures))
 
 write-medians-requires : tie.Need-write-medians-requires
 write-medians-requires c κs =
-    let s = c .before .before .before .before .before .before .before .before .before .before .before .before .before .before .before in
-    let ordered = c .before .before .before in
-    let recorded = ordered .before .before .before .before in
-    (search needs, rises _ _ _ _ _ _ (s .pre .1) (recorded .before .before .before .before .groups .ensures) (recorded .write-records .ensures) (ordered .order-in-groups .ensures) (λ k. ordered .before .before .slice-known3 .given k .fits))
+    let sorted = c .before .before .before .before .before .before .before in
+    let recorded = sorted .before .before .before .before in
+    let grouped = recorded .before .before .before .before in
+    (search needs, rises _ _ _ _ _ _ (c .before .before .before .before .before .before .before .before .before .before .before .before .before .before .before .before .before .before .before .pre .1) (grouped .groups .ensures) (recorded .write-records .ensures) (sorted .sort-by-group .ensures) _ (c .before .before .before .gather-lengths .ensures))
 
 same-length : tie.Need-same-length
 same-length c = search needs
 
 returns : tie.Need-returns
 returns c =
-    let s = c .before .before .before .before .before .before .before .before .before .before .before .before .before .before .before .before .before .before in
-    let centred = c .before .before in
-    let ordered = centred .before .before .before .before in
-    let recorded = ordered .before .before .before .before in
-    weighed _ _ _ _ _ _ (s .pre .1) (recorded .before .before .before .before .groups .ensures) (recorded .write-records .ensures) (ordered .order-in-groups .ensures) (λ k. ordered .before .before .slice-known3 .given k .fits) (s .pre .0 .whole) _ (centred .write-medians .ensures)
+    let gathered = c .before .before .before .before .before .before in
+    let sorted = gathered .before .before .before .before in
+    let recorded = sorted .before .before .before .before in
+    let grouped = recorded .before .before .before .before in
+    let s = c .before .before .before .before .before .before .before .before .before .before .before .before .before .before .before .before .before .before .before .before .before .before in
+    weighed _ _ _ _ _ _ (s .pre .1) (grouped .groups .ensures) (recorded .write-records .ensures) (sorted .sort-by-group .ensures) _ (gathered .gather-lengths .ensures) (s .pre .0 .whole) (λ k. c .before .before .before .before .before .before .before .before .before .before .before .before .before .before .before .before .before .before .before .before .slice-known .given k .fits) _ (c .before .before .write-medians .ensures)
 
 pub write-groups-spec : {M : Type 1} → statement M
 write-groups-spec =
@@ -46,10 +50,10 @@ write-groups-spec =
     (tie.spec
     groups-requires
     write-records-requires
-    mul-order-in-groups
-    mul-order-in-groups-2
-    mul-order-in-groups-3
-    order-in-groups-requires
+    mul-sort-by-group
+    mul-sort-by-group-2
+    sort-by-group-requires
+    gather-lengths-requires
     write-medians-requires
     same-length
     returns)

@@ -1,6 +1,6 @@
--- `write_records` copies what stands outside the table, so the first e records are right at every turn.
+-- `write_records` copies what stands outside the records, so the first q are right at every turn.
 use mathlib.Core.Path.{_≡_}
-use Prim.Native.Nat.{_*_, _-_, _≤_}
+use Prim.Native.Nat.{_-_, _≤_}
 use native.Mathlib.Omega.{arith}
 use Rattle.filter.specs.inner.Steps.{Recorded}
 use Rattle.filter.proofs.Records.{recorded-none, recorded-more}
@@ -9,28 +9,13 @@ use Rattle.filter.proofs.size.write_records.Statement.{statement}
 use Rattle.filter.proofs.size.write_records.Tie as tie
 
 abbrev Inv-loop : tie.InvT-loop
-Inv-loop work₀ n e₀ work e = (e ≤ 4 * n) × Recorded n e work₀ work
+Inv-loop work₀ n q₀ work q = (q ≤ n) × Recorded n q work₀ work
 
 abbrev μ-loop : tie.MeasureT-loop
-μ-loop work₀ n e₀ work e = 4 * n - e
+μ-loop work₀ n q₀ work q = n - q
 
 loop-holds : tie.Need-loop-holds Inv-loop μ-loop
 loop-holds c = (search needs, recorded-none _ _)
-
-mul-loop : tie.Need-mul-loop Inv-loop μ-loop
-mul-loop c = search needs
-
-mul-length : tie.Need-mul-length Inv-loop μ-loop
-mul-length c = search needs
-
-add-length : tie.Need-add-length Inv-loop μ-loop
-add-length c = search needs
-
-mul-length-2 : tie.Need-mul-length-2 Inv-loop μ-loop
-mul-length-2 c = search needs
-
-slice-read-length : tie.Need-slice-read-length Inv-loop μ-loop
-slice-read-length c = search needs
 
 add-group : tie.Need-add-group Inv-loop μ-loop
 add-group c = search needs
@@ -50,18 +35,21 @@ mul-put-2 c = search needs
 add-put : tie.Need-add-put Inv-loop μ-loop
 add-put c = search needs
 
+cast-put : tie.Need-cast-put Inv-loop μ-loop
+cast-put c = search needs
+
 put-requires : tie.Need-put-requires Inv-loop μ-loop
 put-requires c κs = search needs
 
-add-e : tie.Need-add-e Inv-loop μ-loop
-add-e c = search needs
+add-q : tie.Need-add-q Inv-loop μ-loop
+add-q c = search needs
 
 loop-less : tie.Need-loop-less Inv-loop μ-loop
 loop-less c = search needs
 
 loop-again : tie.Need-loop-again Inv-loop μ-loop
 loop-again c =
-    let l = c .before .before .before .before .before .before .before .loop in
+    let l = c .before .before .before .before .before .before .loop in
     (search needs, rw (c .before .before .put .ensures) (recorded-more (l .inv .1) (omega arith) (search needs)))
 
 same-length : tie.Need-same-length Inv-loop μ-loop
@@ -69,7 +57,7 @@ same-length c = search needs
 
 returns : tie.Need-returns Inv-loop μ-loop
 returns c =
-    let e : c .before .loop .e ≡ 4 * c .before .before .before .args .n = omega arith in
+    let e : c .before .loop .q ≡ c .before .before .before .args .n = omega arith in
     rw e at (c .before .loop .inv .1)
 
 pub write-records-spec : {M : Type 1} → statement M
@@ -79,19 +67,15 @@ write-records-spec =
     Inv-loop
     μ-loop
     loop-holds
-    mul-loop
-    mul-length
-    add-length
-    mul-length-2
-    slice-read-length
     add-group
     mul-group
     slice-read-group
     mul-put
     mul-put-2
     add-put
+    cast-put
     put-requires
-    add-e
+    add-q
     loop-less
     loop-again
     same-length

@@ -1,5 +1,6 @@
 // Drawn cases: quad lists of generated frames, noisy grids, and lists that no frame need have.
 
+use super::drawn_medians::median_case;
 use super::finish::finished;
 use super::Case;
 use crate::generate::patterns::cells;
@@ -56,8 +57,11 @@ fn list_case(kind: usize, random: &mut Random) -> Case {
     case.by(ratio, least, greatest)
 }
 
-/// Any drawn case but a large one.
+/// Any drawn case but a large one; in one of five the median decides.
 pub fn any_case(random: &mut Random) -> Case {
+    if random.one_in(5) {
+        return median_case(random);
+    }
     let case = match random.below(6) {
         0 | 1 => {
             let (frame, quads) = frame_with_quads(random.below(KINDS.len()), random);

@@ -7,7 +7,7 @@ use crate::vectors::{work, OverQuads};
 use crate::words::filters::{median, ratio, sides};
 
 /// A ratio of a drawn quad, or a side of it over the median of all, at times one float beside.
-fn critical(case: &Case, of_ratios: bool, random: &mut Random) -> f32 {
+pub fn critical(case: &Case, of_ratios: bool, random: &mut Random) -> f32 {
     let records = case.records();
     let [a, b, c, d] = sides(&case.frame, &random.pick(&records));
     let value = match of_ratios {
@@ -38,7 +38,7 @@ fn draw_params(case: &mut Case, random: &mut Random) {
 }
 
 /// A drawn workspace; room mostly enough, at times a record short.
-fn draw_lists(case: &mut Case, random: &mut Random) {
+pub fn draw_lists(case: &mut Case, random: &mut Random) {
     work::drawn(case, random);
     let [_, _, answer] = ruled::filter(&case.records(), &case.frame);
     let short = !answer.is_empty() && random.one_in(8);

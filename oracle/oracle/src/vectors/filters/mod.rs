@@ -3,16 +3,20 @@
 mod case;
 mod crowds;
 mod drawn;
+mod drawn_medians;
 mod finish;
 mod full;
 mod groups;
 mod lengths;
+mod many_groups;
+mod medians;
 mod order;
 mod ratios;
 mod room;
 mod rows;
 mod shapes;
 mod sizes;
+mod spans;
 mod summary;
 mod tiny;
 mod values;
@@ -20,7 +24,9 @@ mod work;
 
 pub use case::Case;
 pub use drawn::{any_case, noisy_grid};
+pub use drawn_medians::large_median_case;
 pub use finish::damage;
+pub use spans::{apart, beyond, chain, joined, powers, ring, triangles};
 pub use summary::Summary;
 
 use super::pack::{write_cases, Written};
@@ -28,7 +34,7 @@ use super::vector::gathered;
 use std::io;
 use std::path::Path;
 
-/// All cases, those chosen by hand before the drawn ones.
+/// All cases: those chosen by hand, the drawn ones, then those about the median.
 pub fn filter_cases() -> Vec<Case> {
     gathered(&[
         lengths::add,
@@ -44,6 +50,8 @@ pub fn filter_cases() -> Vec<Case> {
         values::add,
         full::add,
         drawn::add,
+        medians::add,
+        many_groups::add,
     ])
 }
 
