@@ -7,10 +7,9 @@ use Prim.Native.Nat.{ℕ, _+_, _*_, _-_, _/_, _%_, _≤_, _<_}
 use native.Mathlib.Omega.{arith}
 use borrow.Author.Tests.{eq-eqb}
 use borrow.Rule.Slice.PartMut.{midOf, putMid, mid-len}
-use lib.ListN.{length, getD, drop}
-use lib.Seq.{getD-take, getD-drop}
+use lib.ListN.{length, getD}
 use Rattle.words.specs.inner.Regions.{Filled}
-use Rattle.words.proofs.Regions.{part-in, part-len}
+use Rattle.words.proofs.Regions.{part-at, part-in, part-len}
 use Rattle.cells.specs.Cells.{Neighbours, everyone}
 use Rattle.cells.specs.Groups.{Groups}
 use Rattle.cells.specs.Groups.Linked.{same, on}
@@ -75,7 +74,7 @@ module _ (span : ℕ) (cells : List ℕ) (n : ℕ) (given : Given span cells n) 
   part-room = omega (arith, long)
 
   blank : (q : ℕ) → q < n → getD part q 0 ≡ 0
-  blank q h = getD-take (at + 18 * n - at) (drop at xs) q 0 (omega arith) ∙ getD-drop at xs q 0 ∙ zeros .holds q h
+  blank q h = part-at xs at (at + 18 * n) q (omega arith) ∙ zeros .holds q h
 
   module _ (ys : List ℕ) (G : Grouped 4 cells n part ys) where
     abbrev back : List ℕ

@@ -8,7 +8,11 @@ use lib.ListN.{getD}
 use Rattle.words.specs.inner.Order.{wordOf}
 use Rattle.words.specs.inner.Regions.{Filled}
 use Rattle.filter.specs.inner.Layout.{sortedAt, gatheredAt, lengthsAt}
-use Rattle.filter.specs.inner.Steps.{gathered}
+use Rattle.filter.specs.inner.Steps.{Gathered}
+
+-- the length that goes to place e
+abbrev pub lengthTo : List ℕ → ℕ → ℕ → ℕ
+lengthTo xs n e = getD xs (lengthsAt n + (4 * wordOf xs (sortedAt n) 0 (e / 4) + e % 4)) 0
 
 module _ {xs ys : List ℕ} {n e q : ℕ} {f : ℕ → ℕ} (filled : Filled xs ys (gatheredAt n) (4 * n) e f) (small : (k : ℕ) → k < n → wordOf xs (sortedAt n) 0 k < n) (h : e < 4 * n) (is : q ≡ getD ys (sortedAt n + 2 * (e / 4)) 0) where
   -- the quad that is read
@@ -18,6 +22,15 @@ module _ {xs ys : List ℕ} {n e q : ℕ} {f : ℕ → ℕ} (filled : Filled xs 
   pub number-lt : q < n
   number-lt = omega (arith, number-is, small (e / 4) (omega arith))
 
-  pub length-next : getD ys (lengthsAt n + (4 * q + e % 4)) 0 ≡ gathered xs n e
+  pub length-next : getD ys (lengthsAt n + (4 * q + e % 4)) 0 ≡ lengthTo xs n e
   length-next =
       filled .kept .rest (lengthsAt n + (4 * q + e % 4)) (λ j l i. omega arith) ∙ ap (λ (z : ℕ). getD xs (lengthsAt n + (4 * z + e % 4)) 0) number-is
+
+pub gathered : {xs ys : List ℕ} {n : ℕ} → Filled xs ys (gatheredAt n) (4 * n) (4 * n) (lengthTo xs n) → Gathered n xs ys
+gathered {xs} {ys} {n} filled = record { kept = filled .kept; lengths = at }
+  where
+    at : (k j : ℕ) → k < n → j < 4 → getD ys (gatheredAt n + (4 * k + j)) 0 ≡ getD xs (lengthsAt n + (4 * wordOf xs (sortedAt n) 0 k + j)) 0
+    at k j h b =
+        let quotient : (4 * k + j) / 4 ≡ k = omega arith in
+        let rest : (4 * k + j) % 4 ≡ j = omega arith in
+        rw (quotient, rest) at (filled .holds (4 * k + j) (omega arith))

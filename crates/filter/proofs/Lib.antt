@@ -7,9 +7,9 @@ pub mod Sizes
 pub mod Records
 pub mod Gathering
 pub mod Runs
+pub mod Ranked
 pub mod Middle
 pub mod Weighing
-pub mod Ranked
 pub mod Proper
 pub mod Judging
 pub mod Sound

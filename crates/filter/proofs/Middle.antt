@@ -1,57 +1,42 @@
 -- The middle one of the lengths of a group's run is the median of the group, by counting: the lengths in the run are those of the group's
 -- sides, quad by quad in their order. Assumes nothing.
-use mathlib.Core.Path.{_≡_, refl, sym, ap, _∙_}
-use mathlib.Core.Bool.{_&&_, and-true}
+use mathlib.Core.Path.{_≡_, refl, sym, ap, _∙_, fun-ext}
+use mathlib.Core.Bool.{Bool, true, _&&_, and-true}
 use Prim.Native.Nat.{ℕ, zero, suc, _+_, _*_, _-_, _/_, _%_, _≤_, _<_}
 use native.Mathlib.Numerals.{add-one}
 use native.Mathlib.Decide.{ℕ-discrete, decLt}
 use native.Mathlib.Omega.{arith}
 use lib.Dec.{eqb, ltb}
-use borrow.Author.Tests.{eq-eqb, ne-eqb, lt-ltb}
+use borrow.Author.Tests.{eq-eqb, ne-eqb}
 use Rattle.words.specs.inner.Middle.{Middle}
 use Rattle.words.specs.Sorting.{Sorting, one, equal, below, rank}
-use Rattle.words.proofs.Rank.{rec-on, equal-zero, equal-yes, equal-no, below-zero, below-all, below-step}
+use Rattle.words.proofs.Rank.{rec-on, equal-zero, equal-yes, equal-no, below-step}
 use Rattle.words.proofs.Sorting.{to-is-rank}
 use Rattle.words.proofs.Cuts.{cut}
-use Rattle.words.proofs.Counting.{below-more, middle-held}
+use Rattle.words.proofs.Counting.{middle-held}
 use Rattle.filter.specs.inner.Steps.{Run, MiddleWord, lowerIn}
+use Rattle.filter.proofs.Ranked.{tallyTo, tally-four, lower-tally, equal-tally}
 
--- ---- four steps at once, and what a quad of the group or of another adds
+-- ---- counts as tallies
 
-four : (F t : ℕ → ℕ) → ((m : ℕ) → F (m + 1) ≡ F m + t m) → (q : ℕ) → F (4 * (q + 1)) ≡ F (4 * q) + (t (4 * q + 0) + t (4 * q + 1) + t (4 * q + 2) + t (4 * q + 3))
-four F t step q =
-    let a = step (4 * q + 0) in
-    let b = step (4 * q + 1) in
-    let c = step (4 * q + 2) in
-    let d = step (4 * q + 3) in
-    let e : F (4 * q + 0) ≡ F (4 * q) = ap F (omega arith) in
-    let f : F (4 * q + 0 + 1) ≡ F (4 * q + 1) = ap F (omega arith) in
-    let g : F (4 * q + 1 + 1) ≡ F (4 * q + 2) = ap F (omega arith) in
-    let h : F (4 * q + 2 + 1) ≡ F (4 * q + 3) = ap F (omega arith) in
-    let i : F (4 * q + 3 + 1) ≡ F (4 * (q + 1)) = ap F (omega arith) in
-    omega arith
+below-tally : (word : ℕ → ℕ) (b m : ℕ) → below word m b ≡ tallyTo (λ (k : ℕ). ltb (word k) b) m
+unfolding below tallyTo
+below-tally word b zero = refl
+below-tally word b (suc m) = ap (λ (n : ℕ). n + one (ltb (word m) b)) (below-tally word b m)
 
-lower-zero : (group len : ℕ → ℕ) (g b : ℕ) → lowerIn group len g 0 b ≡ 0
-unfolding lowerIn
-lower-zero group len g b = refl
+tally-none : (t : ℕ → Bool) (m : ℕ) → m ≡ 0 → tallyTo t m ≡ 0
+unfolding tallyTo
+tally-none t m e = ap (tallyTo t) e
 
-lower-more : (group len : ℕ → ℕ) (g b m : ℕ) → lowerIn group len g (m + 1) b ≡ lowerIn group len g m b + one (eqb (group m) g && ltb (len m) b)
-unfolding lowerIn
-lower-more group len g b m = rw add-one
-
--- every length is below 2^32
-one-all : (group len g : ℕ) → len < 4294967296 → one (eqb group g && ltb len 4294967296) ≡ one (eqb group g)
-one-all group len g fits = rw (lt-ltb len 4294967296 fits) (ap one (and-true (eqb group g)))
-
-lower-all : (group len : ℕ → ℕ) (g m : ℕ) → ((e : ℕ) → e < m → len e < 4294967296) → lowerIn group len g m 4294967296 ≡ equal group m g
-unfolding equal lowerIn
-lower-all group len g zero fits = refl
-lower-all group len g (suc m) fits = omega (arith, one-all (group m) (len m) g (fits m (omega arith)), lower-all group len g m (λ e l. fits e (omega arith)))
+tally-all : (m : ℕ) → tallyTo (λ (k : ℕ). true) m ≡ m
+unfolding tallyTo one
+tally-all zero = refl
+tally-all (suc m) = omega (arith, tally-all m)
 
 -- ---- the run of a group
 
 module _ (group len key runs held : ℕ → ℕ) (n : ℕ) (o : Sorting key n) (is : (q : ℕ) → q < n → key q ≡ group q) (same : (k : ℕ) → k < n → runs k ≡ group (o .from k))
-    (of : (k j : ℕ) → k < n → j < 4 → held (4 * k + j) ≡ len (4 * o .from k + j)) (fits : (e : ℕ) → e < 4 * n → len e < 4294967296) (s e : ℕ) (r : Run runs n s e) where
+    (of : (k j : ℕ) → k < n → j < 4 → held (4 * k + j) ≡ len (4 * o .from k + j)) (s e : ℕ) (r : Run runs n s e) where
   -- the group, and the group of each side
   abbrev g : ℕ
   g = runs s
@@ -90,36 +75,49 @@ module _ (group len key runs held : ℕ → ℕ) (n : ℕ) (o : Sorting key n) (
       let k : o .to q ≡ s + equal key q g = to-is-rank key n o q h ∙ ap (λ (z : ℕ). below key n z + equal key q z) (is q h ∙ e) ∙ ap (λ (z : ℕ). z + equal key q g) starts in
       ap held (omega arith) ∙ of (o .to q) j (o .to-lt q h) b ∙ ap (λ (z : ℕ). len (4 * z + j)) (o .from-to q h)
 
-  own : (b q j : ℕ) → q < n → group q ≡ g → j < 4 → one (ltb (word (4 * equal key q g + j)) b) ≡ one (eqb (sides (4 * q + j)) g && ltb (len (4 * q + j)) b)
-  own b q j h e l = let d : (4 * q + j) / 4 ≡ q = omega arith in rw (stands q j h e l, d, eq-eqb (group q) g e)
+  -- so a test of the run's lengths counts as many as one of the group's sides
+  module _ (p : ℕ → Bool) where
+    abbrev inRun : ℕ → Bool
+    inRun j = p (word j)
 
-  other : (b q j : ℕ) → (group q ≡ g → ⊥) → j < 4 → one (eqb (sides (4 * q + j)) g && ltb (len (4 * q + j)) b) ≡ 0
-  unfolding one
-  other b q j e l = let d : (4 * q + j) / 4 ≡ q = omega arith in rw (d, ne-eqb (group q) g e)
+    abbrev inGroup : ℕ → Bool
+    inGroup i = eqb (sides i) g && p (len i)
 
-  -- so the run counts as the group's sides do
-  lower : (b q : ℕ) → q ≤ n → below word (4 * equal key q g) b ≡ lowerIn sides len g (4 * q) b
-  lower b = rec-on (λ q. q ≤ n → below word (4 * equal key q g) b ≡ lowerIn sides len g (4 * q) b) (λ h. ap (λ (m : ℕ). below word m b) (omega (arith, equal-zero key g)) ∙ below-zero word b ∙ sym (lower-zero sides len g b) ∙ ap (λ (m : ℕ). lowerIn sides len g m b) (omega arith)) turn
-    where
-      turn : (q : ℕ) → (q ≤ n → below word (4 * equal key q g) b ≡ lowerIn sides len g (4 * q) b) → q + 1 ≤ n → below word (4 * equal key (q + 1) g) b ≡ lowerIn sides len g (4 * (q + 1)) b
-      turn q ih h = go (ℕ-discrete (group q) g)
-        where
-          l : q < n
-          l = omega arith
+    own : (q j : ℕ) → q < n → group q ≡ g → j < 4 → inRun (4 * equal key q g + j) ≡ inGroup (4 * q + j)
+    own q j h e l = let d : (4 * q + j) / 4 ≡ q = omega arith in rw (stands q j h e l, d, eq-eqb (group q) g e)
 
-          added : lowerIn sides len g (4 * (q + 1)) b ≡ lowerIn sides len g (4 * q) b + (one (eqb (sides (4 * q + 0)) g && ltb (len (4 * q + 0)) b) + one (eqb (sides (4 * q + 1)) g && ltb (len (4 * q + 1)) b) + one (eqb (sides (4 * q + 2)) g && ltb (len (4 * q + 2)) b) + one (eqb (sides (4 * q + 3)) g && ltb (len (4 * q + 3)) b))
-          added = four (λ (m : ℕ). lowerIn sides len g m b) (λ (m : ℕ). one (eqb (sides m) g && ltb (len m) b)) (lower-more sides len g b) q
+    other : (q j : ℕ) → (group q ≡ g → ⊥) → j < 4 → one (inGroup (4 * q + j)) ≡ 0
+    unfolding one
+    other q j e l = let d : (4 * q + j) / 4 ≡ q = omega arith in rw (d, ne-eqb (group q) g e)
 
-          go : Dec (group q ≡ g) → below word (4 * equal key (q + 1) g) b ≡ lowerIn sides len g (4 * (q + 1)) b
-          go (yes y) =
-              rw (equal-yes key q g (is q l ∙ y))
-              (omega (arith, added, ih (omega arith), four (λ (m : ℕ). below word m b) (λ (m : ℕ). one (ltb (word m) b)) (below-more word b) (equal key q g), own b q 0 l y (omega arith), own b q 1 l y (omega arith), own b q 2 l y (omega arith), own b q 3 l y (omega arith)))
-          go (no y) =
-              rw (equal-no key q g (λ e. y (sym (is q l) ∙ e)))
-              (omega (arith, added, ih (omega arith), other b q 0 y (omega arith), other b q 1 y (omega arith), other b q 2 y (omega arith), other b q 3 y (omega arith)))
+    alike : (q : ℕ) → q ≤ n → tallyTo inRun (4 * equal key q g) ≡ tallyTo inGroup (4 * q)
+    alike = rec-on (λ q. q ≤ n → tallyTo inRun (4 * equal key q g) ≡ tallyTo inGroup (4 * q)) (λ h. tally-none inRun (4 * equal key 0 g) (omega (arith, equal-zero key g)) ∙ sym (tally-none inGroup (4 * 0) (omega arith))) turn
+      where
+        turn : (q : ℕ) → (q ≤ n → tallyTo inRun (4 * equal key q g) ≡ tallyTo inGroup (4 * q)) → q + 1 ≤ n → tallyTo inRun (4 * equal key (q + 1) g) ≡ tallyTo inGroup (4 * (q + 1))
+        turn q ih h = go (ℕ-discrete (group q) g)
+          where
+            l : q < n
+            l = omega arith
+
+            own-one : (j : ℕ) → group q ≡ g → j < 4 → one (inRun (4 * equal key q g + j)) ≡ one (inGroup (4 * q + j))
+            own-one j y b = ap one (own q j l y b)
+
+            go : Dec (group q ≡ g) → tallyTo inRun (4 * equal key (q + 1) g) ≡ tallyTo inGroup (4 * (q + 1))
+            go (yes y) =
+                rw (equal-yes key q g (is q l ∙ y), add-one (equal key q g), add-one q)
+                (omega (arith, ih (omega arith), tally-four inRun (equal key q g), tally-four inGroup q, own-one 0 y (omega arith), own-one 1 y (omega arith), own-one 2 y (omega arith), own-one 3 y (omega arith)))
+            go (no y) =
+                rw (equal-no key q g (λ e. y (sym (is q l) ∙ e)), add-one q)
+                (omega (arith, ih (omega arith), tally-four inGroup q, other q 0 y (omega arith), other q 1 y (omega arith), other q 2 y (omega arith), other q 3 y (omega arith)))
+
+    alike-run : tallyTo inRun (4 * (e - s)) ≡ tallyTo inGroup (4 * n)
+    alike-run = rw (← counts) (alike n (omega arith))
 
   lower-run : (b : ℕ) → below word (4 * (e - s)) b ≡ lowerIn sides len g (4 * n) b
-  lower-run b = rw (← counts) (lower b n (omega arith))
+  lower-run b = below-tally word b (4 * (e - s)) ∙ alike-run (λ (x : ℕ). ltb x b) ∙ sym (lower-tally sides len g b (4 * n))
+
+  size : equal sides (4 * n) g ≡ 4 * (e - s)
+  size = equal-tally sides g (4 * n) ∙ ap (λ (t : ℕ → Bool). tallyTo t (4 * n)) (fun-ext (λ i. sym (and-true (eqb (sides i) g)))) ∙ sym (alike-run (λ (x : ℕ). true)) ∙ tally-all (4 * (e - s))
 
   -- the side at place j of the run
   source : ℕ → ℕ
@@ -138,11 +136,6 @@ module _ (group len key runs held : ℕ → ℕ) (n : ℕ) (o : Sorting key n) (
   source-lt : (j : ℕ) → j < 4 * (e - s) → source j < 4 * n
   unfolding source
   source-lt j h = omega (arith, o .from-lt (s + j / 4) (omega (arith, r .within)))
-
-  size : equal sides (4 * n) g ≡ 4 * (e - s)
-  size =
-      sym (lower-all sides len g (4 * n) fits) ∙ sym (lower-run 4294967296)
-      ∙ below-all word 4294967296 (4 * (e - s)) (λ j h. rw (source-is j h) (fits (source j) (source-lt j h)))
 
   pub middle-word : (b : ℕ) → Middle word (4 * (e - s)) b → MiddleWord sides len (4 * n) g b
   middle-word b m =

@@ -86,7 +86,7 @@ tally p [] = 0
 tally p (x ∷ l) = one (p x) + tally p l
 
 -- how many of the first m places pass
-unfoldable tallyTo : (ℕ → Bool) → ℕ → ℕ
+unfoldable pub tallyTo : (ℕ → Bool) → ℕ → ℕ
 tallyTo t zero = 0
 tallyTo t (suc m) = tallyTo t m + one (t m)
 
@@ -105,12 +105,12 @@ unfolding tally one
 length-tally [] = refl
 length-tally (x ∷ l) = rw (← length-tally l) (omega arith)
 
-lower-tally : (group len : ℕ → ℕ) (g b m : ℕ) → lowerIn group len g m b ≡ tallyTo (λ (e : ℕ). eqb (group e) g && ltb (len e) b) m
+pub lower-tally : (group len : ℕ → ℕ) (g b m : ℕ) → lowerIn group len g m b ≡ tallyTo (λ (e : ℕ). eqb (group e) g && ltb (len e) b) m
 unfolding lowerIn tallyTo
 lower-tally group len g b zero = refl
 lower-tally group len g b (suc m) = ap (λ (n : ℕ). n + one (eqb (group m) g && ltb (len m) b)) (lower-tally group len g b m)
 
-equal-tally : (group : ℕ → ℕ) (g m : ℕ) → equal group m g ≡ tallyTo (λ (e : ℕ). eqb (group e) g) m
+pub equal-tally : (group : ℕ → ℕ) (g m : ℕ) → equal group m g ≡ tallyTo (λ (e : ℕ). eqb (group e) g) m
 unfolding equal tallyTo
 equal-tally group g zero = refl
 equal-tally group g (suc m) = ap (λ (n : ℕ). n + one (eqb (group m) g)) (equal-tally group g m)
@@ -125,7 +125,7 @@ unfolding tallyTo
 tally-next t m n e = ap (tallyTo t) e
 
 -- the four places of quad q
-tally-four : (t : ℕ → Bool) (q : ℕ) → tallyTo t (4 * suc q) ≡ tallyTo t (4 * q) + (one (t (4 * q + 0)) + (one (t (4 * q + 1)) + (one (t (4 * q + 2)) + (one (t (4 * q + 3)) + 0))))
+pub tally-four : (t : ℕ → Bool) (q : ℕ) → tallyTo t (4 * suc q) ≡ tallyTo t (4 * q) + (one (t (4 * q + 0)) + (one (t (4 * q + 1)) + (one (t (4 * q + 2)) + (one (t (4 * q + 3)) + 0))))
 tally-four t q =
     let a = tally-next t (4 * q + 0) (4 * q + 1) (omega arith) in
     let b = tally-next t (4 * q + 1) (4 * q + 2) (omega arith) in

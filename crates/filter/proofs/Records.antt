@@ -8,7 +8,7 @@ use Rattle.words.specs.inner.Regions.{two}
 use Rattle.words.proofs.Regions.{kept-refl}
 use Rattle.words.proofs.Moving.{two-cases, two-kept}
 use Rattle.cells.specs.inner.Table.{groupsAt}
-use Rattle.filter.specs.inner.Layout.{recordsAt, sortedAt}
+use Rattle.filter.specs.inner.Layout.{recordsAt}
 use Rattle.filter.specs.inner.Steps.{Recorded}
 
 pub recorded-none : (n : ℕ) (xs : List ℕ) → Recorded n 0 xs xs
@@ -18,7 +18,7 @@ recorded-none n xs = record { kept = kept-refl xs (recordsAt n) (2 * n); numbers
 copied-group : {n m : ℕ} {xs ys : List ℕ} → Recorded n m xs ys → m < n → getD ys (groupsAt n + m) 0 ≡ getD xs (groupsAt n + m) 0
 copied-group {n} {m} b h = b .kept .rest (groupsAt n + m) (λ j l e. omega arith)
 
-pub recorded-more : {n m : ℕ} {xs ys : List ℕ} → Recorded n m xs ys → m < n → sortedAt n ≤ length xs → Recorded n (m + 1) xs (two ys (recordsAt n + 2 * m) m (getD ys (groupsAt n + m) 0))
+pub recorded-more : {n m : ℕ} {xs ys : List ℕ} → Recorded n m xs ys → m < n → recordsAt n + 2 * n ≤ length xs → Recorded n (m + 1) xs (two ys (recordsAt n + 2 * m) m (getD ys (groupsAt n + m) 0))
 recorded-more {n} {m} {xs} {ys} b h room =
     let at : ℕ = recordsAt n + 2 * m in
     let w : ℕ = getD ys (groupsAt n + m) 0 in

@@ -5,16 +5,16 @@ use mathlib.Core.List.{List}
 use Prim.Native.Nat.{ℕ, _+_, _*_, _-_, _≤_, _<_}
 use native.Mathlib.Decide.{decLt}
 use native.Mathlib.Omega.{arith}
-use lib.ListN.{length, getD, set, drop, length-set}
-use lib.Seq.{getD-set-same, getD-set-other, getD-take, getD-drop}
+use lib.ListN.{length, getD, set, length-set}
+use lib.Seq.{getD-set-same, getD-set-other}
 use borrow.Rule.Slice.PartMut.{midOf, putMid, mid-len}
 use Rattle.words.specs.inner.Order.{wordOf}
 use Rattle.words.specs.inner.Regions.{Outside, Kept}
 use Rattle.words.specs.inner.Middle.{Middle, wordIn}
-use Rattle.words.proofs.Regions.{part-kept}
+use Rattle.words.proofs.Regions.{part-at, part-kept}
 use Rattle.words.proofs.Counting.{middle-same}
 use Rattle.filter.specs.inner.Layout.{sortedAt, gatheredAt, mediansAt}
-use Rattle.filter.specs.inner.Steps.{Run, Central, Rising, Centred}
+use Rattle.filter.specs.inner.Steps.{Run, MedianAt, Rising, Centred}
 
 pub run-ends : (group : ℕ → ℕ) (m s e : ℕ) → ((j k : ℕ) → j ≤ k → k < m → group j ≤ group k) → s < e → e ≤ m → ((k : ℕ) → k < s → group k < group s) → ((k : ℕ) → s ≤ k → k < e → group k ≡ group s) → (e < m → group e ≡ group s → ⊥) → Run group m s e
 run-ends group m s e rises some within before alike stop = record {
@@ -66,8 +66,8 @@ rising-kept {n} q r = record {
 }
 
 -- a group before the run keeps its median, since it is lower
-central-earlier : {n : ℕ} {xs ys zs : List ℕ} {k : ℕ} → getD zs (mediansAt n + wordOf xs (sortedAt n) 1 k) 0 ≡ getD ys (mediansAt n + wordOf xs (sortedAt n) 1 k) 0 → Central n xs ys k → Central n xs zs k
-central-earlier {n} {xs} e m = record { s = m .s; e = m .e; run = m .run; from = m .from; to = m .to; is = rw e (m .is) }
+median-earlier : {n : ℕ} {xs ys zs : List ℕ} {k : ℕ} → getD zs (mediansAt n + wordOf xs (sortedAt n) 1 k) 0 ≡ getD ys (mediansAt n + wordOf xs (sortedAt n) 1 k) 0 → MedianAt n xs ys k → MedianAt n xs zs k
+median-earlier {n} {xs} e m = record { s = m .s; e = m .e; run = m .run; from = m .from; to = m .to; is = rw e (m .is) }
 
 -- ---- the loop: the medians of the first s records are written, the lengths from there on have not moved, and a run begins at s
 
@@ -80,7 +80,7 @@ pub record RunsTo (n s : ℕ) (xs ys : List ℕ) : Type 0 where
 pub runs-none : (n : ℕ) (xs : List ℕ) → RunsTo n 0 xs xs
 runs-none n xs = record {
   within = omega arith;
-  centred = record { len = refl; rest = λ k o u. refl; central = λ k h. absurd (omega arith) };
+  centred = record { len = refl; rest = λ k o u. refl; medians = λ k h. absurd (omega arith) };
   ahead = λ j h l. refl;
   begins = λ k h. absurd (omega arith);
 }
@@ -93,7 +93,7 @@ pub group-small : {n s : ℕ} {xs ys : List ℕ} → Rising n xs → RunsTo n s 
 group-small {n} {s} rising t l = omega (arith, rising .small s l, records-kept (t .centred) 1 s (omega arith) l)
 
 -- where a run's lengths stand
-abbrev pub runAt : ℕ → ℕ → ℕ
+abbrev runAt : ℕ → ℕ → ℕ
 runAt n s = gatheredAt n + 4 * s
 
 -- the run from s up to e, whose lengths were lent and came back as part, and the median b that was found of them
@@ -141,17 +141,17 @@ module _ {n s e : ℕ} {xs ys : List ℕ} (part : List ℕ) (g b : ℕ) (rising 
     where
       was : (j : ℕ) → j < 4 * (e - s) → getD (midOf (runAt n s) (runAt n e - runAt n s) ys) j 0 ≡ getD xs (gatheredAt n + (4 * s + j)) 0
       was j h =
-          getD-take (runAt n e - runAt n s) (drop (runAt n s) ys) j 0 (omega arith) ∙ getD-drop (runAt n s) ys j 0
+          part-at ys (runAt n s) (runAt n e) j (omega arith)
           ∙ ap (λ (i : ℕ). getD ys i 0) (omega arith) ∙ t .ahead (4 * s + j) (omega arith) (omega (arith, run .within))
 
-  central-here : (k : ℕ) → s ≤ k → k < e → Central n xs after k
-  central-here k from to =
+  median-here : (k : ℕ) → s ≤ k → k < e → MedianAt n xs after k
+  median-here k from to =
       let same : wordOf xs (sortedAt n) 1 k ≡ g = r .alike k from to ∙ sym group-is in
       record { s = s; e = e; run = r; from = from; to = to; is = rw (same, getD-set-same back (mediansAt n + g) b 0 stored-lt) found-here }
 
-  central-all : (k : ℕ) → k < e → Dec (k < s) → Central n xs after k
-  central-all k h (yes l) = central-earlier (still _ (λ j m i. omega (arith, run .within)) (λ i. omega (arith, group-is, r .before k l))) (t .centred .central k l)
-  central-all k h (no l) = central-here k (omega arith) h
+  median-all : (k : ℕ) → k < e → Dec (k < s) → MedianAt n xs after k
+  median-all k h (yes l) = median-earlier (still _ (λ j m i. omega (arith, run .within)) (λ i. omega (arith, group-is, r .before k l))) (t .centred .medians k l)
+  median-all k h (no l) = median-here k (omega arith) h
 
   pub runs-more : RunsTo n e xs after
   runs-more = record {
@@ -159,7 +159,7 @@ module _ {n s e : ℕ} {xs ys : List ℕ} (part : List ℕ) (g b : ℕ) (rising 
     centred = record {
       len = length-set back (mediansAt n + g) b ∙ kept .len ∙ t .centred .len;
       rest = λ k o u. still k (λ j l i. o (4 * s + j) (omega (arith, run .within)) (omega arith)) (λ i. u g small i) ∙ t .centred .rest k o u;
-      central = λ k h. central-all k h (decLt k s);
+      medians = λ k h. median-all k h (decLt k s);
     };
     ahead = λ j h l. still (gatheredAt n + j) (λ i m k. omega arith) (λ i. omega arith) ∙ t .ahead j (omega (arith, run .some)) l;
     begins = run-next r;

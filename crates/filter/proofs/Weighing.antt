@@ -5,17 +5,16 @@ use mathlib.Core.List.{List}
 use Prim.Native.Nat.{ℕ, _+_, _*_, _/_, _≤_, _<_}
 use native.Mathlib.Omega.{arith}
 use lib.ListN.{length, getD}
-use Rattle.words.specs.inner.Regions.{Outside, Filled}
+use Rattle.words.specs.inner.Regions.{Outside}
 use Rattle.words.specs.Sorting.{Sorting}
-use Rattle.words.specs.inner.Order.{wordOf, groupOf}
-use Rattle.words.specs.inner.Digits.{Passed}
+use Rattle.words.specs.inner.Order.{wordOf, Passed, groupOf}
 use Rattle.words.proofs.Cuts.{ascends}
 use Rattle.cells.proofs.Groups.{groups-same}
 use Rattle.mesh.specs.Lists.{mostQuads}
 use Rattle.cells.specs.inner.Table.{groupsAt}
 use Rattle.cells.specs.inner.Sides.{Grouped}
 use Rattle.filter.specs.inner.Layout.{recordsAt, sortedAt, gatheredAt, lengthsAt, mediansAt}
-use Rattle.filter.specs.inner.Steps.{Recorded, gathered, Rising, Central, Centred, MiddleWord, Weighed}
+use Rattle.filter.specs.inner.Steps.{Recorded, Gathered, Rising, MedianAt, Centred, MiddleWord, Weighed}
 use Rattle.filter.proofs.Middle.{middle-word}
 
 module _ (quads : List ℕ) (n : ℕ) (xs gs rs os : List ℕ) (few : n ≤ mostQuads) (grouped : Grouped 4 quads n xs gs) (recorded : Recorded n n gs rs) (sorted : Passed (groupOf rs (recordsAt n)) rs os (recordsAt n) (sortedAt n) n) where
@@ -39,10 +38,14 @@ module _ (quads : List ℕ) (n : ℕ) (xs gs rs os : List ℕ) (few : n ≤ most
   pub numbers-small : (k : ℕ) → k < n → wordOf os (sortedAt n) 0 k < n
   numbers-small k h = omega (arith, number-at k h, order .from-lt k h)
 
-  module _ (ls : List ℕ) (filled : Filled os ls (gatheredAt n) (4 * n) (4 * n) (gathered os n)) where
+  -- before the records and past the lengths by group nothing moves
+  still-sorted : (k : ℕ) → Outside (recordsAt n) (8 * n) k → getD os k 0 ≡ getD gs k 0
+  still-sorted k o = sorted .kept .rest k (λ j l e. o (2 * n + j) (omega arith) (omega arith)) ∙ recorded .kept .rest k (λ j l e. o j (omega arith) e)
+
+  module _ (ls : List ℕ) (gathered : Gathered n os ls) where
     -- the records have not moved
     record-still : (c k : ℕ) → c < 2 → k < n → wordOf ls (sortedAt n) c k ≡ wordOf os (sortedAt n) c k
-    record-still c k b h = filled .kept .rest (sortedAt n + 2 * k + c) (λ j l e. omega arith)
+    record-still c k b h = gathered .kept .rest (sortedAt n + 2 * k + c) (λ j l e. omega arith)
 
     group-in : (k : ℕ) → k < n → wordOf ls (sortedAt n) 1 k ≡ getD gs (groupsAt n + order .from k) 0
     group-in k h = record-still 1 k (omega arith) h ∙ group-at k h
@@ -55,19 +58,14 @@ module _ (quads : List ℕ) (n : ℕ) (xs gs rs os : List ℕ) (few : n ≤ most
             let i : j < n = omega arith in
             omega (arith, ascends order j k h l, group-in j i, group-in k l, key-is (order .from j) (order .from-lt j i), key-is (order .from k) (order .from-lt k l))
 
-    -- before the records, and from the lengths up to the medians, nothing moves until the medians are found
-    still-gathered : (k : ℕ) → Outside (recordsAt n) (8 * n) k → k < mediansAt n → getD ls k 0 ≡ getD gs k 0
-    still-gathered k o h =
-        filled .kept .rest k (λ j l e. o (4 * n + j) (omega arith) (omega arith))
-        ∙ sorted .kept .rest k (λ j l e. o (2 * n + j) (omega arith) (omega arith))
-        ∙ recorded .kept .rest k (λ j l e. o j (omega arith) e)
-
     unmoved-length : (e : ℕ) → e < 4 * n → getD gs (lengthsAt n + e) 0 ≡ getD xs (lengthsAt n + e) 0
     unmoved-length e h = grouped .rest (lengthsAt n + e) (omega arith)
 
-    module _ (whole : length quads ≡ 4 * n) (fits : (k : ℕ) → getD xs k 0 < 4294967296) (ms : List ℕ) (centred : Centred n n ls ms) where
+    module _ (whole : length quads ≡ 4 * n) (ms : List ℕ) (centred : Centred n n ls ms) where
       still : (k : ℕ) → Outside (recordsAt n) (8 * n) k → k < mediansAt n → getD ms k 0 ≡ getD gs k 0
-      still k o h = centred .rest k (λ j l e. o (4 * n + j) (omega arith) (omega arith)) (λ j l e. omega arith) ∙ still-gathered k o h
+      still k o h =
+          centred .rest k (λ j l e. o (4 * n + j) (omega arith) (omega arith)) (λ j l e. omega arith)
+          ∙ gathered .kept .rest k (λ j l e. o (4 * n + j) (omega arith) (omega arith)) ∙ still-sorted k o
 
       still-group : (q : ℕ) → q < n → getD ms (groupsAt n + q) 0 ≡ getD gs (groupsAt n + q) 0
       still-group q h = still (groupsAt n + q) (λ j l e. omega arith) (omega arith)
@@ -82,16 +80,10 @@ module _ (quads : List ℕ) (n : ℕ) (xs gs rs os : List ℕ) (few : n ≤ most
       length-at : (k j : ℕ) → k < n → j < 4 → getD ls (gatheredAt n + (4 * k + j)) 0 ≡ lengthOf (4 * order .from k + j)
       length-at k j h b =
           let f = order .from-lt k h in
-          filled .holds (4 * k + j) (omega arith)
-          ∙ ap (λ (i : ℕ). getD os (lengthsAt n + i) 0) (omega (arith, number-at k h, ap (λ (i : ℕ). wordOf os (sortedAt n) 0 i) quotient))
-          ∙ sym (filled .kept .rest (lengthsAt n + (4 * order .from k + j)) (λ i l e. omega arith))
-          ∙ still-gathered (lengthsAt n + (4 * order .from k + j)) (λ i l e. omega arith) (omega arith)
-          ∙ unmoved-length (4 * order .from k + j) (omega arith)
-        where
-          quotient : (4 * k + j) / 4 ≡ k
-          quotient = omega arith
+          gathered .lengths k j h b ∙ ap (λ (q : ℕ). getD os (lengthsAt n + (4 * q + j)) 0) (number-at k h)
+          ∙ still-sorted (lengthsAt n + (4 * order .from k + j)) (λ i l e. omega arith) ∙ unmoved-length (4 * order .from k + j) (omega arith)
 
-      median : (q : ℕ) → q < n → Central n ls ms (order .to q) → MiddleWord (λ (e : ℕ). groupIn (e / 4)) lengthOf (4 * n) (groupIn q) (getD ms (mediansAt n + groupIn q) 0)
+      median : (q : ℕ) → q < n → MedianAt n ls ms (order .to q) → MiddleWord (λ (e : ℕ). groupIn (e / 4)) lengthOf (4 * n) (groupIn q) (getD ms (mediansAt n + groupIn q) 0)
       median q h m = rw (group-q, group-k) at word
         where
           k : ℕ
@@ -102,7 +94,7 @@ module _ (quads : List ℕ) (n : ℕ) (xs gs rs os : List ℕ) (few : n ≤ most
               middle-word groupIn lengthOf (groupOf rs (recordsAt n)) (wordOf ls (sortedAt n) 1) (λ (j : ℕ). getD ls (gatheredAt n + j) 0) n order
               (λ p l. key-is p l ∙ sym (still-group p l))
               (λ j l. group-in j l ∙ sym (still-group (order .from j) (order .from-lt j l)))
-              length-at (λ e l. fits (lengthsAt n + e)) (m .s) (m .e) (m .run) _ (m .is)
+              length-at (m .s) (m .e) (m .run) _ (m .is)
 
           group-k : wordOf ls (sortedAt n) 1 k ≡ groupIn q
           group-k = group-in k (order .to-lt q h) ∙ ap (λ (j : ℕ). getD gs (groupsAt n + j) 0) (order .from-to q h) ∙ sym (still-group q h)
@@ -112,9 +104,9 @@ module _ (quads : List ℕ) (n : ℕ) (xs gs rs os : List ℕ) (few : n ≤ most
 
       pub weighed : Weighed quads n xs ms
       weighed = record {
-        len = centred .len ∙ filled .kept .len ∙ sorted .kept .len ∙ recorded .kept .len ∙ grouped .len;
+        len = centred .len ∙ gathered .kept .len ∙ sorted .kept .len ∙ recorded .kept .len ∙ grouped .len;
         marks = λ k h. still k (λ j l e. omega arith) (omega arith) ∙ grouped .marks k h;
         lengths = λ e h. still (lengthsAt n + e) (λ j l i. omega arith) (omega arith) ∙ unmoved-length e h;
         groups = groups-same (λ p q e. (omega (arith, e .from), omega (arith, e .to))) (λ q h. sym (still-group q h)) (grouped .groups);
-        medians = λ q h. median q h (centred .central (order .to q) (order .to-lt q h));
+        medians = λ q h. median q h (centred .medians (order .to q) (order .to-lt q h));
       }

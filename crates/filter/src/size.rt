@@ -6,9 +6,9 @@ ghost use Rattle.words.specs.inner.Order.{wordOf};
 ghost use Rattle.words.specs.inner.Regions.{Filled};
 ghost use Rattle.cells.specs.inner.Table.{Sound, groupsAt};
 ghost use Rattle.mesh.specs.Lists.{mostQuads};
-ghost use Rattle.filter.specs.inner.Layout.{sortedAt, gatheredAt, lengthsAt, mediansAt};
+ghost use Rattle.filter.specs.inner.Layout.{recordsAt, sortedAt, lengthsAt, mediansAt};
 ghost use Rattle.filter.specs.Size.{isSkipped, offSide, offSize};
-ghost use Rattle.filter.specs.inner.Steps.{lengthIn, sizeMark, Recorded, gathered, Rising, Run, Centred, Weighed, Sized};
+ghost use Rattle.filter.specs.inner.Steps.{lengthIn, sizeMark, Recorded, Gathered, Rising, Run, Centred, Weighed, Sized};
 use crate::FilterParams;
 use crate::layout::GATHERED;
 use crate::layout::LENGTHS;
@@ -26,7 +26,7 @@ use words::inner::wide;
 
 // A record for every quad: its number and its group.
 fn write_records(work: &mut [u32], n: usize)
-    requires { ⌜ (sortedAt n ≤ length (now work)) × (n ≤ mostQuads) ⌝ }
+    requires { ⌜ (recordsAt n + 2 * n ≤ length (now work)) × (n ≤ mostQuads) ⌝ }
     ensures { λ _. ⌜ Recorded n n (now (work .entry)) (now (work .exit)) ⌝ }
 {
     let mut q = 0;
@@ -39,9 +39,9 @@ fn write_records(work: &mut [u32], n: usize)
 
 // The lengths of all sides, in the order of the records of their quads.
 fn gather_lengths(work: &mut [u32], n: usize)
-    requires { ⌜ mediansAt n ≤ length (now work) ⌝ }
+    requires { ⌜ lengthsAt n + 4 * n ≤ length (now work) ⌝ }
     requires { ⌜ ((k : ℕ) → k < n → wordOf (now work) (sortedAt n) 0 k < n) ⌝ }
-    ensures { λ _. ⌜ Filled (now (work .entry)) (now (work .exit)) (gatheredAt n) (4 * n) (4 * n) (gathered (now (work .entry)) n) ⌝ }
+    ensures { λ _. ⌜ Gathered n (now (work .entry)) (now (work .exit)) ⌝ }
 {
     let mut e = 0;
     while e < 4 * n {
@@ -53,7 +53,7 @@ fn gather_lengths(work: &mut [u32], n: usize)
 
 // Where the run of one group that begins at record s ends, of n records by group.
 fn run_end(work: &[u32], n: usize, s: usize) -> usize
-    requires { ⌜ (s < n) × (gatheredAt n ≤ length (now work)) ⌝ }
+    requires { ⌜ (s < n) × (sortedAt n + 2 * n ≤ length (now work)) ⌝ }
     requires { ⌜ Rising n (now work) ⌝ }
     requires { ⌜ ((k : ℕ) → k < s → wordOf (now work) (sortedAt n) 1 k < wordOf (now work) (sortedAt n) 1 s) ⌝ }
     ensures { λ r. ⌜ Run (wordOf (now (work .entry)) (sortedAt n) 1) n s r ⌝ }

@@ -3,7 +3,7 @@
 ghost use mathlib.Core.Path.{_≡_};
 ghost use mathlib.Core.Bool.{true, cond};
 ghost use mathlib.Core.List.{[], _∷_};
-ghost use Prim.Native.Nat.{_+_, _*_, _-_, _≤_, _<_, min, max};
+ghost use Prim.Native.Nat.{_+_, _*_, _-_, _≤_, _<_};
 ghost use lib.ListN.{length};
 ghost use Rattle.words.specs.inner.Regions.{Kept};
 ghost use Rattle.cells.specs.Holes.{holes, height};
@@ -26,6 +26,8 @@ use laying::inner::labels::from_word;
 use laying::inner::layout::KEYS;
 use laying::inner::layout::SEEDS;
 use words::inner::fill_zero;
+use words::inner::greater;
+use words::inner::lesser;
 use words::inner::wide;
 
 // The least words of a run.
@@ -88,24 +90,6 @@ fn shifted(word: u32, least: u32) -> u32
     ensures { λ r. ⌜ r ≡ word - least ⌝ }
 {
     (from_word(word) - from_word(least)) as u32
-}
-
-fn lesser(a: u32, b: u32) -> u32
-    ensures { λ r. ⌜ r ≡ min a b ⌝ }
-{
-    if a < b {
-        return a;
-    }
-    b
-}
-
-fn greater(a: u32, b: u32) -> u32
-    ensures { λ r. ⌜ r ≡ max a b ⌝ }
-{
-    if a < b {
-        return b;
-    }
-    a
 }
 
 // The least x of a run is that of its first record; where there is none, a number above every word.

@@ -15,7 +15,7 @@ ascends {key} {n} s i j h m = go (decLt (key (s .from j)) (key (s .from i)))
     go (no y) = omega arith
 
 -- the places of a key are those from the count of lower keys on
-pub cut-below : (key : ℕ → ℕ) (n : ℕ) (s : Sorting key n) (k : ℕ) → k < n → (below key n (key (s .from k)) ≤ k) × (k < below key n (key (s .from k) + 1))
+cut-below : (key : ℕ → ℕ) (n : ℕ) (s : Sorting key n) (k : ℕ) → k < n → (below key n (key (s .from k)) ≤ k) × (k < below key n (key (s .from k) + 1))
 unfolding rank
 cut-below key n s k h =
     let i : ℕ = s .from k in

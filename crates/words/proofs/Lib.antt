@@ -9,4 +9,5 @@ pub mod Moving
 pub mod Composing
 pub mod Counting
 pub mod Dividing
+pub mod Extremes
 pub mod Narrowing

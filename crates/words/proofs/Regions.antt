@@ -1,5 +1,5 @@
--- Laws of regions: a store in one keeps what is outside it and may be the next that it is to hold, and a part of a list that was lent
--- and has come back changes that part alone, all zero if it came back so. Assumes nothing.
+-- Laws of regions: a store in one keeps what is outside it and may be the next that it is to hold, and a part of a list that is lent has
+-- its words and, when it has come back, changes that part alone, all zero if it came back so. Assumes nothing.
 use mathlib.Core.Path.{_≡_, refl, sym, ap, subst, _∙_}
 use mathlib.Core.List.{List, _++_}
 use Prim.Native.Nat.{ℕ, _+_, _-_, _≤_, _<_}
@@ -66,7 +66,12 @@ filled-over k q = record { kept = kept-trans k (q .kept); holds = q .holds }
 pub kept-past : {xs ys : List ℕ} {a m : ℕ} → Kept xs ys a m → (k : ℕ) → a + m ≤ k → getD ys k 0 ≡ getD xs k 0
 kept-past q k h = q .rest k (λ j l e. omega arith)
 
--- ---- a part from a up to e that was lent and has come back as ys
+-- ---- a part from a up to e that is lent
+
+pub part-at : (xs : List ℕ) (a e k : ℕ) → k < e - a → getD (midOf a (e - a) xs) k 0 ≡ getD xs (a + k) 0
+part-at xs a e k h = getD-take (e - a) (drop a xs) k 0 h ∙ getD-drop a xs k 0
+
+-- and has come back as ys
 
 module _ (xs ys : List ℕ) (a e : ℕ) (ae : a ≤ e) (el : e ≤ length xs) (same : length ys ≡ e - a) where
   front : length (take a xs) ≡ a

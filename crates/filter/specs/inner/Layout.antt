@@ -1,6 +1,6 @@
--- Where the filters keep what in the workspace, for n quads: marks and groups as in cells; where its tables were, a record for each quad,
--- the records by group and the lengths by group; then the lengths of all sides by their bits, the medians by group, and the incidence of
--- each corner.
+-- Where the filters keep what in the workspace, for n quads: marks and groups as in cells; in the room of its tables, which end at 18·n, a
+-- record for each quad, the records by group and the lengths by group; then the lengths of all sides by their bits, the medians by group,
+-- and the incidence of each corner.
 use Prim.Native.Nat.{ℕ, _*_}
 
 abbrev pub recordsAt : ℕ → ℕ

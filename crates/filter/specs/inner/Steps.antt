@@ -58,9 +58,10 @@ pub record Recorded (n m : ℕ) (xs ys : List ℕ) : Type 0 where
   pub numbers : (q : ℕ) → q < m → wordOf ys (recordsAt n) 0 q ≡ q
   pub groups : (q : ℕ) → q < m → wordOf ys (recordsAt n) 1 q ≡ getD xs (groupsAt n + q) 0
 
--- the lengths in the order of the records: place e has side e % 4 of the quad of record e / 4
-abbrev pub gathered : List ℕ → ℕ → ℕ → ℕ
-gathered work n e = getD work (lengthsAt n + (4 * wordOf work (sortedAt n) 0 (e / 4) + e % 4)) 0
+-- the lengths by group: those of the quad of each record, in the order of the records
+pub record Gathered (n : ℕ) (xs ys : List ℕ) : Type 0 where
+  pub kept : Kept xs ys (gatheredAt n) (4 * n)
+  pub lengths : (k j : ℕ) → k < n → j < 4 → getD ys (gatheredAt n + (4 * k + j)) 0 ≡ getD xs (lengthsAt n + (4 * wordOf xs (sortedAt n) 0 k + j)) 0
 
 -- of m places with groups, those from s up to e are all that have one group
 pub record Run (group : ℕ → ℕ) (m s e : ℕ) : Type 0 where
@@ -71,7 +72,7 @@ pub record Run (group : ℕ → ℕ) (m s e : ℕ) : Type 0 where
   pub after : (k : ℕ) → e ≤ k → k < m → group s < group k
 
 -- the median of the group of record k is the middle one of its run's lengths
-pub record Central (n : ℕ) (xs ys : List ℕ) (k : ℕ) : Type 0 where
+pub record MedianAt (n : ℕ) (xs ys : List ℕ) (k : ℕ) : Type 0 where
   pub s : ℕ
   pub e : ℕ
   pub run : Run (wordOf xs (sortedAt n) 1) n s e
@@ -79,7 +80,7 @@ pub record Central (n : ℕ) (xs ys : List ℕ) (k : ℕ) : Type 0 where
   pub to : k < e
   pub is : Middle (λ (j : ℕ). getD xs (gatheredAt n + (4 * s + j)) 0) (4 * (e - s)) (getD ys (mediansAt n + wordOf xs (sortedAt n) 1 k) 0)
 
--- the groups of the records ascend
+-- the groups of the records ascend, and are below n
 pub record Rising (n : ℕ) (work : List ℕ) : Type 0 where
   pub rising : (j k : ℕ) → j ≤ k → k < n → wordOf work (sortedAt n) 1 j ≤ wordOf work (sortedAt n) 1 k
   pub small : (k : ℕ) → k < n → wordOf work (sortedAt n) 1 k < n
@@ -88,7 +89,7 @@ pub record Rising (n : ℕ) (work : List ℕ) : Type 0 where
 pub record Centred (n m : ℕ) (xs ys : List ℕ) : Type 0 where
   pub len : length ys ≡ length xs
   pub rest : (k : ℕ) → Outside (gatheredAt n) (4 * n) k → Outside (mediansAt n) n k → getD ys k 0 ≡ getD xs k 0
-  pub central : (k : ℕ) → k < m → Central n xs ys k
+  pub medians : (k : ℕ) → k < m → MedianAt n xs ys k
 
 -- how many of the first m places have the group g and a length below b
 unfoldable pub lowerIn : (ℕ → ℕ) → (ℕ → ℕ) → ℕ → ℕ → ℕ → ℕ

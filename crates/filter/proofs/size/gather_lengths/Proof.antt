@@ -5,14 +5,13 @@ use native.Mathlib.Omega.{arith}
 use Rattle.words.specs.inner.Regions.{Filled}
 use Rattle.words.proofs.Regions.{filled-none, filled-more}
 use Rattle.filter.specs.inner.Layout.{gatheredAt}
-use Rattle.filter.specs.inner.Steps.{gathered}
-use Rattle.filter.proofs.Gathering.{number-lt, length-next}
+use Rattle.filter.proofs.Gathering.{lengthTo, number-lt, length-next, gathered}
 use borrow.Author.Needs.{needs}
 use Rattle.filter.proofs.size.gather_lengths.Statement.{statement}
 use Rattle.filter.proofs.size.gather_lengths.Tie as tie
 
 abbrev Inv-loop : tie.InvT-loop
-Inv-loop work₀ n e₀ work e = (e ≤ 4 * n) × Filled work₀ work (gatheredAt n) (4 * n) e (gathered work₀ n)
+Inv-loop work₀ n e₀ work e = (e ≤ 4 * n) × Filled work₀ work (gatheredAt n) (4 * n) e (lengthTo work₀ n)
 
 abbrev μ-loop : tie.MeasureT-loop
 μ-loop work₀ n e₀ work e = 4 * n - e
@@ -92,7 +91,7 @@ same-length c = search needs
 returns : tie.Need-returns Inv-loop μ-loop
 returns c =
     let e : c .before .loop .e ≡ 4 * c .before .before .before .args .n = omega arith in
-    rw e at (c .before .loop .inv .1)
+    gathered (rw e at (c .before .loop .inv .1))
 
 pub gather-lengths-spec : {M : Type 1} → statement M
 gather-lengths-spec =

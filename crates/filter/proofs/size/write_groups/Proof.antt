@@ -42,7 +42,7 @@ returns c =
     let recorded = sorted .before .before .before .before in
     let grouped = recorded .before .before .before .before in
     let s = c .before .before .before .before .before .before .before .before .before .before .before .before .before .before .before .before .before .before .before .before .before .before in
-    weighed _ _ _ _ _ _ (s .pre .1) (grouped .groups .ensures) (recorded .write-records .ensures) (sorted .sort-by-group .ensures) _ (gathered .gather-lengths .ensures) (s .pre .0 .whole) (λ k. c .before .before .before .before .before .before .before .before .before .before .before .before .before .before .before .before .before .before .before .before .slice-known .given k .fits) _ (c .before .before .write-medians .ensures)
+    weighed _ _ _ _ _ _ (s .pre .1) (grouped .groups .ensures) (recorded .write-records .ensures) (sorted .sort-by-group .ensures) _ (gathered .gather-lengths .ensures) (s .pre .0 .whole) _ (c .before .before .write-medians .ensures)
 
 pub write-groups-spec : {M : Type 1} → statement M
 write-groups-spec =
