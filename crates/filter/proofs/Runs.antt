@@ -13,7 +13,7 @@ use Rattle.words.specs.inner.Regions.{Outside, Kept}
 use Rattle.words.specs.inner.Middle.{Middle, wordIn}
 use Rattle.words.proofs.Regions.{part-at, part-kept}
 use Rattle.words.proofs.Counting.{middle-same}
-use Rattle.filter.specs.inner.Layout.{sortedAt, gatheredAt, mediansAt}
+use Rattle.filter.specs.inner.Layout.{recordsAt, gatheredAt, mediansAt}
 use Rattle.filter.specs.inner.Steps.{Run, MedianAt, Rising, Centred}
 
 pub run-ends : (group : ℕ → ℕ) (m s e : ℕ) → ((j k : ℕ) → j ≤ k → k < m → group j ≤ group k) → s < e → e ≤ m → ((k : ℕ) → k < s → group k < group s) → ((k : ℕ) → s ≤ k → k < e → group k ≡ group s) → (e < m → group e ≡ group s → ⊥) → Run group m s e
@@ -56,8 +56,8 @@ run-same {f} {g} {m} {s} {e} same r = record {
 -- ---- the medians
 
 -- no record has moved
-records-kept : {n m : ℕ} {xs ys : List ℕ} → Centred n m xs ys → (c k : ℕ) → c < 2 → k < n → wordOf ys (sortedAt n) c k ≡ wordOf xs (sortedAt n) c k
-records-kept {n} q c k h l = q .rest (sortedAt n + 2 * k + c) (λ j b e. omega arith) (λ j b e. omega arith)
+records-kept : {n m : ℕ} {xs ys : List ℕ} → Centred n m xs ys → (c k : ℕ) → c < 2 → k < n → wordOf ys (recordsAt n) c k ≡ wordOf xs (recordsAt n) c k
+records-kept {n} q c k h l = q .rest (recordsAt n + 2 * k + c) (λ j b e. omega arith) (λ j b e. omega arith)
 
 pub rising-kept : {n m : ℕ} {xs ys : List ℕ} → Centred n m xs ys → Rising n xs → Rising n ys
 rising-kept {n} q r = record {
@@ -66,7 +66,7 @@ rising-kept {n} q r = record {
 }
 
 -- a group before the run keeps its median, since it is lower
-median-earlier : {n : ℕ} {xs ys zs : List ℕ} {k : ℕ} → getD zs (mediansAt n + wordOf xs (sortedAt n) 1 k) 0 ≡ getD ys (mediansAt n + wordOf xs (sortedAt n) 1 k) 0 → MedianAt n xs ys k → MedianAt n xs zs k
+median-earlier : {n : ℕ} {xs ys zs : List ℕ} {k : ℕ} → getD zs (mediansAt n + wordOf xs (recordsAt n) 1 k) 0 ≡ getD ys (mediansAt n + wordOf xs (recordsAt n) 1 k) 0 → MedianAt n xs ys k → MedianAt n xs zs k
 median-earlier {n} {xs} e m = record { s = m .s; e = m .e; run = m .run; from = m .from; to = m .to; is = rw e (m .is) }
 
 -- ---- the loop: the medians of the first s records are written, the lengths from there on have not moved, and a run begins at s
@@ -75,7 +75,7 @@ pub record RunsTo (n s : ℕ) (xs ys : List ℕ) : Type 0 where
   pub within : s ≤ n
   pub centred : Centred n s xs ys
   pub ahead : (j : ℕ) → 4 * s ≤ j → j < 4 * n → getD ys (gatheredAt n + j) 0 ≡ getD xs (gatheredAt n + j) 0
-  pub begins : (k : ℕ) → k < s → s < n → wordOf xs (sortedAt n) 1 k < wordOf xs (sortedAt n) 1 s
+  pub begins : (k : ℕ) → k < s → s < n → wordOf xs (recordsAt n) 1 k < wordOf xs (recordsAt n) 1 s
 
 pub runs-none : (n : ℕ) (xs : List ℕ) → RunsTo n 0 xs xs
 runs-none n xs = record {
@@ -86,10 +86,10 @@ runs-none n xs = record {
 }
 
 -- the same of the list as it stands
-pub begins-kept : {n s : ℕ} {xs ys : List ℕ} → RunsTo n s xs ys → s < n → (k : ℕ) → k < s → wordOf ys (sortedAt n) 1 k < wordOf ys (sortedAt n) 1 s
+pub begins-kept : {n s : ℕ} {xs ys : List ℕ} → RunsTo n s xs ys → s < n → (k : ℕ) → k < s → wordOf ys (recordsAt n) 1 k < wordOf ys (recordsAt n) 1 s
 begins-kept {n} {s} t l k h = omega (arith, t .begins k h l, records-kept (t .centred) 1 k (omega arith) (omega arith), records-kept (t .centred) 1 s (omega arith) l)
 
-pub group-small : {n s : ℕ} {xs ys : List ℕ} → Rising n xs → RunsTo n s xs ys → s < n → wordOf ys (sortedAt n) 1 s < n
+pub group-small : {n s : ℕ} {xs ys : List ℕ} → Rising n xs → RunsTo n s xs ys → s < n → wordOf ys (recordsAt n) 1 s < n
 group-small {n} {s} rising t l = omega (arith, rising .small s l, records-kept (t .centred) 1 s (omega arith) l)
 
 -- where a run's lengths stand
@@ -97,7 +97,7 @@ abbrev runAt : ℕ → ℕ → ℕ
 runAt n s = gatheredAt n + 4 * s
 
 -- the run from s up to e, whose lengths were lent and came back as part, and the median b that was found of them
-module _ {n s e : ℕ} {xs ys : List ℕ} (part : List ℕ) (g b : ℕ) (rising : Rising n xs) (t : RunsTo n s xs ys) (room : mediansAt n + n ≤ length xs) (run : Run (wordOf ys (sortedAt n) 1) n s e) (group : g ≡ wordOf ys (sortedAt n) 1 s)
+module _ {n s e : ℕ} {xs ys : List ℕ} (part : List ℕ) (g b : ℕ) (rising : Rising n xs) (t : RunsTo n s xs ys) (room : mediansAt n + n ≤ length xs) (run : Run (wordOf ys (recordsAt n) 1) n s e) (group : g ≡ wordOf ys (recordsAt n) 1 s)
     (lent : length part ≡ length (midOf (runAt n s) (runAt n e - runAt n s) ys)) (found : Middle (wordIn (midOf (runAt n s) (runAt n e - runAt n s) ys)) (length (midOf (runAt n s) (runAt n e - runAt n s) ys)) b) where
   abbrev back : List ℕ
   back = putMid (runAt n s) (runAt n e - runAt n s) ys part
@@ -123,10 +123,10 @@ module _ {n s e : ℕ} {xs ys : List ℕ} (part : List ℕ) (g b : ℕ) (rising 
   small : g < n
   small = omega (arith, group, group-small rising t at)
 
-  group-is : g ≡ wordOf xs (sortedAt n) 1 s
+  group-is : g ≡ wordOf xs (recordsAt n) 1 s
   group-is = group ∙ records-kept (t .centred) 1 s (omega arith) at
 
-  r : Run (wordOf xs (sortedAt n) 1) n s e
+  r : Run (wordOf xs (recordsAt n) 1) n s e
   r = run-same (λ k h. records-kept (t .centred) 1 k (omega arith) h) run
 
   stored-lt : mediansAt n + g < length back
@@ -146,7 +146,7 @@ module _ {n s e : ℕ} {xs ys : List ℕ} (part : List ℕ) (g b : ℕ) (rising 
 
   median-here : (k : ℕ) → s ≤ k → k < e → MedianAt n xs after k
   median-here k from to =
-      let same : wordOf xs (sortedAt n) 1 k ≡ g = r .alike k from to ∙ sym group-is in
+      let same : wordOf xs (recordsAt n) 1 k ≡ g = r .alike k from to ∙ sym group-is in
       record { s = s; e = e; run = r; from = from; to = to; is = rw (same, getD-set-same back (mediansAt n + g) b 0 stored-lt) found-here }
 
   median-all : (k : ℕ) → k < e → Dec (k < s) → MedianAt n xs after k

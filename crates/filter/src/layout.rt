@@ -3,8 +3,8 @@
 // A record for each quad.
 pub(crate) const RECORDS: usize = 2;
 
-// The records by group.
-pub(crate) const SORTED: usize = 4;
+// The room for the records' ordering.
+pub(crate) const ORDERING: usize = 4;
 
 // The lengths by group.
 pub(crate) const GATHERED: usize = 6;

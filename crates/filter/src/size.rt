@@ -6,21 +6,21 @@ ghost use Rattle.words.specs.inner.Order.{wordOf};
 ghost use Rattle.words.specs.inner.Regions.{Filled};
 ghost use Rattle.cells.specs.inner.Table.{Sound, groupsAt};
 ghost use Rattle.mesh.specs.Lists.{mostQuads};
-ghost use Rattle.filter.specs.inner.Layout.{recordsAt, sortedAt, lengthsAt, mediansAt};
+ghost use Rattle.filter.specs.inner.Layout.{recordsAt, lengthsAt, mediansAt};
 ghost use Rattle.filter.specs.Size.{isSkipped, offSide, offSize};
 ghost use Rattle.filter.specs.inner.Steps.{lengthIn, sizeMark, Recorded, Gathered, Rising, Run, Centred, Weighed, Sized};
 use crate::FilterParams;
 use crate::layout::GATHERED;
 use crate::layout::LENGTHS;
 use crate::layout::MEDIANS;
+use crate::layout::ORDERING;
 use crate::layout::RECORDS;
-use crate::layout::SORTED;
 use crate::lengths::length_at;
 use cells::inner::groups;
 use measure::inner::float_of;
 use measure::inner::is_finite;
+use words::inner::order::order_by_group;
 use words::inner::order::put;
-use words::inner::order::sort_by_group;
 use words::inner::select::middle_word;
 use words::inner::wide;
 
@@ -40,12 +40,12 @@ fn write_records(work: &mut [u32], n: usize)
 // The lengths of all sides, in the order of the records of their quads.
 fn gather_lengths(work: &mut [u32], n: usize)
     requires { ⌜ lengthsAt n + 4 * n ≤ length (now work) ⌝ }
-    requires { ⌜ ((k : ℕ) → k < n → wordOf (now work) (sortedAt n) 0 k < n) ⌝ }
+    requires { ⌜ ((k : ℕ) → k < n → wordOf (now work) (recordsAt n) 0 k < n) ⌝ }
     ensures { λ _. ⌜ Gathered n (now (work .entry)) (now (work .exit)) ⌝ }
 {
     let mut e = 0;
     while e < 4 * n {
-        let q = wide(work[SORTED * n + 2 * (e / 4)]);
+        let q = wide(work[RECORDS * n + 2 * (e / 4)]);
         work[GATHERED * n + e] = work[LENGTHS * n + (4 * q + e % 4)];
         e += 1;
     }
@@ -53,15 +53,15 @@ fn gather_lengths(work: &mut [u32], n: usize)
 
 // Where the run of one group that begins at record s ends, of n records by group.
 fn run_end(work: &[u32], n: usize, s: usize) -> usize
-    requires { ⌜ (s < n) × (sortedAt n + 2 * n ≤ length (now work)) ⌝ }
+    requires { ⌜ (s < n) × (recordsAt n + 2 * n ≤ length (now work)) ⌝ }
     requires { ⌜ Rising n (now work) ⌝ }
-    requires { ⌜ ((k : ℕ) → k < s → wordOf (now work) (sortedAt n) 1 k < wordOf (now work) (sortedAt n) 1 s) ⌝ }
-    ensures { λ r. ⌜ Run (wordOf (now (work .entry)) (sortedAt n) 1) n s r ⌝ }
+    requires { ⌜ ((k : ℕ) → k < s → wordOf (now work) (recordsAt n) 1 k < wordOf (now work) (recordsAt n) 1 s) ⌝ }
+    ensures { λ r. ⌜ Run (wordOf (now (work .entry)) (recordsAt n) 1) n s r ⌝ }
 {
-    let group = work[SORTED * n + 2 * s + 1];
+    let group = work[RECORDS * n + 2 * s + 1];
     let mut e = s + 1;
     while e < n {
-        if work[SORTED * n + 2 * e + 1] != group {
+        if work[RECORDS * n + 2 * e + 1] != group {
             return e;
         }
         e += 1;
@@ -78,7 +78,7 @@ fn write_medians(work: &mut [u32], n: usize)
     let mut s = 0;
     while s < n {
         let e = run_end(work, n, s);
-        let group = wide(work[SORTED * n + 2 * s + 1]);
+        let group = wide(work[RECORDS * n + 2 * s + 1]);
         let median = middle_word(&mut work[GATHERED * n + 4 * s..GATHERED * n + 4 * e]);
         work[MEDIANS * n + group] = median;
         s = e;
@@ -163,7 +163,7 @@ fn write_groups(quads: &[u32], work: &mut [u32], n: usize)
 {
     groups(quads, 4, n, work);
     write_records(work, n);
-    sort_by_group(work, RECORDS * n, SORTED * n, n);
+    order_by_group(work, RECORDS * n, ORDERING * n, n);
     gather_lengths(work, n);
     write_medians(work, n);
 }

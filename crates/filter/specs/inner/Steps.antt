@@ -18,7 +18,7 @@ use Rattle.mesh.specs.Lists.{mostCorners, mostQuads}
 use Rattle.mesh.specs.Cells.{namesTwice}
 use Rattle.filter.specs.declared.FilterParams.{FilterParams}
 use Rattle.filter.specs.Input.{Input, quadCount, lengthOfSide}
-use Rattle.filter.specs.inner.Layout.{recordsAt, sortedAt, gatheredAt, lengthsAt, mediansAt}
+use Rattle.filter.specs.inner.Layout.{recordsAt, gatheredAt, lengthsAt, mediansAt}
 use Rattle.filter.specs.Opposing.{uneven}
 use Rattle.filter.specs.Size.{isSkipped, offSize}
 use Rattle.filter.specs.Marks.{Marked}
@@ -61,7 +61,7 @@ pub record Recorded (n m : ℕ) (xs ys : List ℕ) : Type 0 where
 -- the lengths by group: those of the quad of each record, in the order of the records
 pub record Gathered (n : ℕ) (xs ys : List ℕ) : Type 0 where
   pub kept : Kept xs ys (gatheredAt n) (4 * n)
-  pub lengths : (k j : ℕ) → k < n → j < 4 → getD ys (gatheredAt n + (4 * k + j)) 0 ≡ getD xs (lengthsAt n + (4 * wordOf xs (sortedAt n) 0 k + j)) 0
+  pub lengths : (k j : ℕ) → k < n → j < 4 → getD ys (gatheredAt n + (4 * k + j)) 0 ≡ getD xs (lengthsAt n + (4 * wordOf xs (recordsAt n) 0 k + j)) 0
 
 -- of m places with groups, those from s up to e are all that have one group
 pub record Run (group : ℕ → ℕ) (m s e : ℕ) : Type 0 where
@@ -75,15 +75,15 @@ pub record Run (group : ℕ → ℕ) (m s e : ℕ) : Type 0 where
 pub record MedianAt (n : ℕ) (xs ys : List ℕ) (k : ℕ) : Type 0 where
   pub s : ℕ
   pub e : ℕ
-  pub run : Run (wordOf xs (sortedAt n) 1) n s e
+  pub run : Run (wordOf xs (recordsAt n) 1) n s e
   pub from : s ≤ k
   pub to : k < e
-  pub is : Middle (λ (j : ℕ). getD xs (gatheredAt n + (4 * s + j)) 0) (4 * (e - s)) (getD ys (mediansAt n + wordOf xs (sortedAt n) 1 k) 0)
+  pub is : Middle (λ (j : ℕ). getD xs (gatheredAt n + (4 * s + j)) 0) (4 * (e - s)) (getD ys (mediansAt n + wordOf xs (recordsAt n) 1 k) 0)
 
 -- the groups of the records ascend, and are below n
 pub record Rising (n : ℕ) (work : List ℕ) : Type 0 where
-  pub rising : (j k : ℕ) → j ≤ k → k < n → wordOf work (sortedAt n) 1 j ≤ wordOf work (sortedAt n) 1 k
-  pub small : (k : ℕ) → k < n → wordOf work (sortedAt n) 1 k < n
+  pub rising : (j k : ℕ) → j ≤ k → k < n → wordOf work (recordsAt n) 1 j ≤ wordOf work (recordsAt n) 1 k
+  pub small : (k : ℕ) → k < n → wordOf work (recordsAt n) 1 k < n
 
 -- the medians of the first m records stand in their place; the lengths by group may have moved, and all else is as it was
 pub record Centred (n m : ℕ) (xs ys : List ℕ) : Type 0 where

@@ -3,14 +3,14 @@ use mathlib.Core.Path.{_≡_}
 use Prim.Native.Nat.{ℕ, _-_, _≤_, _<_}
 use native.Mathlib.Omega.{arith}
 use Rattle.words.specs.inner.Order.{wordOf}
-use Rattle.filter.specs.inner.Layout.{sortedAt}
+use Rattle.filter.specs.inner.Layout.{recordsAt}
 use Rattle.filter.proofs.Runs.{alike-more, run-ends}
 use borrow.Author.Needs.{needs}
 use Rattle.filter.proofs.size.run_end.Statement.{statement}
 use Rattle.filter.proofs.size.run_end.Tie as tie
 
 abbrev Inv-loop : tie.InvT-loop
-Inv-loop work n s group e₀ e = (s < e) × (e ≤ n) × ((k : ℕ) → s ≤ k → k < e → wordOf work (sortedAt n) 1 k ≡ wordOf work (sortedAt n) 1 s)
+Inv-loop work n s group e₀ e = (s < e) × (e ≤ n) × ((k : ℕ) → s ≤ k → k < e → wordOf work (recordsAt n) 1 k ≡ wordOf work (recordsAt n) 1 s)
 
 abbrev μ-loop : tie.MeasureT-loop
 μ-loop work n s group e₀ e = n - e
@@ -61,7 +61,7 @@ returns : tie.Need-returns Inv-loop μ-loop
 returns c =
     let s = c .before .before .before .before .before in
     let l = c .before .before .before .loop .inv in
-    run-ends (wordOf (s .args .work .now) (sortedAt (s .args .n)) 1) _ _ _ (s .pre .1 .0 .rising) (l .0) (l .1) (s .pre .1 .1) (l .2) (λ h. c .if1 .taken)
+    run-ends (wordOf (s .args .work .now) (recordsAt (s .args .n)) 1) _ _ _ (s .pre .1 .0 .rising) (l .0) (l .1) (s .pre .1 .1) (l .2) (λ h. c .if1 .taken)
 
 add-e-2 : tie.Need-add-e-2 Inv-loop μ-loop
 add-e-2 c = search needs
@@ -72,13 +72,13 @@ loop-less c = search needs
 loop-again : tie.Need-loop-again Inv-loop μ-loop
 loop-again c =
     let s = c .before .before .before .before .before in
-    (search needs, search needs, alike-more (wordOf (s .args .work .now) (sortedAt (s .args .n)) 1) _ _ (c .before .before .before .loop .inv .2) (c .if1 .left))
+    (search needs, search needs, alike-more (wordOf (s .args .work .now) (recordsAt (s .args .n)) 1) _ _ (c .before .before .before .loop .inv .2) (c .if1 .left))
 
 returns-2 : tie.Need-returns-2 Inv-loop μ-loop
 returns-2 c =
     let s = c .before .before .before in
     let l = c .before .loop .inv in
-    run-ends (wordOf (s .args .work .now) (sortedAt (s .args .n)) 1) _ _ _ (s .pre .1 .0 .rising) (l .0) (l .1) (s .pre .1 .1) (l .2) (λ h. absurd (omega arith))
+    run-ends (wordOf (s .args .work .now) (recordsAt (s .args .n)) 1) _ _ _ (s .pre .1 .0 .rising) (l .0) (l .1) (s .pre .1 .1) (l .2) (λ h. absurd (omega arith))
 
 pub run-end-spec : {M : Type 1} → statement M
 run-end-spec =
