@@ -11,3 +11,4 @@ pub mod Counting
 pub mod Dividing
 pub mod Extremes
 pub mod Narrowing
+pub mod Example

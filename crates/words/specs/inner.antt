@@ -1,4 +1,5 @@
 pub mod Regions
 pub mod Order
 pub mod Middle
+pub mod Example
 pub mod Digits
