@@ -1,14 +1,16 @@
 -- How many there are of a kind is one number; it goes over to another kind whose members are, one for one, those of the first; and over
 -- numbers below a bound it is counted one number at a time. Assumes nothing.
 use mathlib.Core.Path.{_≡_, refl, sym, ap, _∙_}
-use Prim.Native.Nat.{ℕ, _+_, _≤_, _<_}
-use native.Mathlib.Nat.{le-antisymm}
+use Prim.Native.Nat.{ℕ, zero, suc, _+_, _≤_, _<_}
+use native.Mathlib.Nat.{le-antisymm, add-zero}
+use native.Mathlib.Numerals.{add-one}
 use native.Mathlib.Decide.{ℕ-discrete}
 use native.Mathlib.Omega.{arith}
-use mathlib.Core.Bool.{cond}
+use mathlib.Core.Bool.{Bool, true, false, cond, false≢true}
 use borrow.Author.Tests.{eq-eqb, ne-eqb}
 use lib.Dec.{eqb}
 use Rattle.cells.specs.Counted.{Among, Exactly}
+use Rattle.cells.specs.Sums.{total, howMany}
 use Rattle.cells.proofs.NoMore.{no-more}
 
 -- ---- one number
@@ -106,3 +108,13 @@ module _ (P : ℕ → Type 0) where
           go (no e) =
               let a = E .every j (omega (arith, h .0, e), h .1) in
               record { at = a .at; small = omega (arith, a .small); is = early (a .at) (λ f. omega (arith, f, a .small)) ∙ a .is }
+
+-- as many below n pass a test as are counted
+pub exactly-how-many : (test : ℕ → Bool) (n : ℕ) → Exactly (Below (λ k. test k ≡ true) n) (howMany test n)
+unfolding total
+exactly-how-many test zero = below-none (λ k. test k ≡ true)
+exactly-how-many test (suc n) = go (test n) refl (exactly-how-many test n)
+  where
+    go : (b : Bool) → test n ≡ b → Exactly (Below (λ k. test k ≡ true) n) (howMany test n) → Exactly (Below (λ k. test k ≡ true) (suc n)) (howMany test n + cond b 1 0)
+    go true e E = rw (← add-one n) (below-more (λ k. test k ≡ true) n e E)
+    go false e E = rw (← add-one n, add-zero) (below-passed (λ k. test k ≡ true) n (λ f. false≢true (sym e ∙ f)) E)

@@ -28,3 +28,6 @@ pub mod Listing
 pub mod Yields
 pub mod Gaps
 pub mod Reseed
+pub mod Reorder
+pub mod Relisted
+pub mod Orders

@@ -11,6 +11,7 @@ use Rattle.cells.specs.Cells.{cell}
 use Rattle.cells.specs.Kind.{Pair, _⊕_, _⊖_, origin, Reached, ReachedCorner, Fits, Lone}
 use Rattle.cells.specs.Quads.{turn, turns, moved, OneStep, Square, quads}
 use Rattle.cells.specs.Quads.OneStep.{east, north, west, south}
+use Rattle.cells.specs.Turned.{Turned}
 use Rattle.cells.proofs.Whole.{sum, opp, of, to, pair, up-pos}
 use Rattle.cells.proofs.Unique.{join, reached-back, one-labelling}
 use Rattle.cells.proofs.Squares.{turn-step, square-forced, first-square, four, quad-laws, all-round, fits-round}
@@ -39,7 +40,11 @@ turns-less : (t : ℕ) (a b : Pair) → turns t b ⊖ turns t a ≡ turns t (b �
 turns-less zero a b = refl
 turns-less (suc t) a b = turn-less (turns t a) (turns t b) ∙ ap turn (turns-less t a b)
 
-moved-less : (t : ℕ) (d a b : Pair) → moved t d b ⊖ moved t d a ≡ turns t (b ⊖ a)
+pub turns-sum : (t : ℕ) (a b : Pair) → turns t (a ⊕ b) ≡ turns t a ⊕ turns t b
+turns-sum zero a b = refl
+turns-sum (suc t) a b = ap turn (turns-sum t a b) ∙ turn-sum (turns t a) (turns t b)
+
+pub moved-less : (t : ℕ) (d a b : Pair) → moved t d b ⊖ moved t d a ≡ turns t (b ⊖ a)
 moved-less t d a b = pair (shift-less (turns t a .0) (turns t b .0) (d .0)) (shift-less (turns t a .1) (turns t b .1) (d .1)) ∙ turns-less t a b
 
 -- ---- a square turned and shifted is a square
@@ -124,15 +129,8 @@ module _ (cells : List ℕ) where
   same-corners : {s r c : ℕ} → Reached quads cells s r → ReachedCorner quads cells s c → ReachedCorner quads cells r c
   same-corners h k = record { of = k .of; reached = join (reached-back quads quad-laws cells h) (k .reached); place = k .place; small = k .small; is = k .is }
 
-  -- M is L turned t times and shifted by d, on the corners reached from s
-  pub record Differ (s : ℕ) (L M : ℕ → Pair) : Type 0 where
-    pub t : ℕ
-    pub small : t < 4
-    pub d : Pair
-    pub is : (c : ℕ) → ReachedCorner quads cells s c → M c ≡ moved t d (L c)
-
   -- whatever fits from a reached quad differs by a turn and a shift
-  pub two-seeds : {s r : ℕ} {L M : ℕ → Pair} → Fits quads cells s L → Fits quads cells r M → Reached quads cells s r → Differ s L M
+  pub two-seeds : {s r : ℕ} {L M : ℕ → Pair} → Fits quads cells s L → Fits quads cells r M → Reached quads cells s r → Turned (ReachedCorner quads cells s) L M
   two-seeds f g h =
       let e = reseed f h in
       record { t = e .t; small = e .small; d = e .d; is = λ c k. one-labelling quads quad-laws cells g (e .fits) (same-corners h k) }

@@ -10,4 +10,7 @@ pub mod Twin
 pub mod Computed
 pub mod Check
 pub mod Example
+pub mod Reordered
+pub mod Turned
+pub mod Orders
 pub mod inner

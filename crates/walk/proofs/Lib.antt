@@ -20,6 +20,8 @@ pub mod Wanted
 pub mod Early
 pub mod ByRoom
 pub mod Demand
+pub mod Carried
+pub mod Order
 pub mod Sound
 pub mod Rooms
 pub mod Outcomes
