@@ -8,7 +8,7 @@ use oracle::vectors::{OverQuads, Vector};
 use std::fmt::Debug;
 
 /// One in so many lists is a large one, and one in so many is damaged.
-const LARGE: usize = 500;
+pub const LARGE: usize = 500;
 const DAMAGED: usize = 10;
 
 /// A call: how its cases are drawn, and what the archive answers.

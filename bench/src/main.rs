@@ -5,6 +5,7 @@ mod check;
 mod check_filters;
 mod check_frames;
 mod check_labels;
+mod check_order;
 mod drawn;
 mod filters;
 mod frames;
@@ -29,6 +30,8 @@ bench check filters COUNT SEED
                               the filters on drawn lists beside the ruled Rust, every word; in one of five the median decides
 bench check labels COUNT SEED the labelling on drawn lists beside the Rust's walk, every word; one in four is of sheets with
                               parts cut out
+bench check order COUNT SEED  the same on drawn lists in several orders of their quads: groups joined through sides run in opposite
+                              senses agree up to a turn and a shift, and of the others how many differ
 bench check frames COUNT SEED whole frames and their stages beside the ruled and the unchanged Rust, every word;
                               one in 500 has 4,096 corners and 24,576 half-edges, one in six is of sheets with parts cut out
 bench help                    this list
@@ -36,7 +39,7 @@ A check that finds a difference ends with status 1; no words, or words that cann
 Document 01 is the customer's paper with the rules that the port follows; docs/GUIDE.md has what a user needs of it.
 ";
 
-const COMMANDS: [Command; 9] = [
+const COMMANDS: [Command; 10] = [
     ("numbers", 0..=0, |_| timed(numbers::run)),
     ("filters", 0..=0, |_| timed(filters::run)),
     ("labels", 0..=0, |_| timed(labels::run)),
@@ -45,6 +48,7 @@ const COMMANDS: [Command; 9] = [
     ("check pairs", 2..=2, |words| compared(words, check::pairs)),
     ("check filters", 2..=2, |words| compared(words, |count, seed| check_filters::FILTERS.check(count, seed))),
     ("check labels", 2..=2, |words| compared(words, |count, seed| check_labels::LABELS.check(count, seed))),
+    ("check order", 2..=2, |words| compared(words, check_order::check)),
     ("check frames", 2..=2, |words| compared(words, check_frames::check)),
 ];
 

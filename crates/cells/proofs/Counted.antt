@@ -109,7 +109,7 @@ module _ (P : ℕ → Type 0) where
               let a = E .every j (omega (arith, h .0, e), h .1) in
               record { at = a .at; small = omega (arith, a .small); is = early (a .at) (λ f. omega (arith, f, a .small)) ∙ a .is }
 
--- as many below n pass a test as are counted
+-- `howMany` counts exactly those below n that pass
 pub exactly-how-many : (test : ℕ → Bool) (n : ℕ) → Exactly (Below (λ k. test k ≡ true) n) (howMany test n)
 unfolding total
 exactly-how-many test zero = below-none (λ k. test k ≡ true)

@@ -11,6 +11,10 @@ use Rattle.cells.proofs.Links.{joined, turned, fold, kept}
 pub linked-equal : {E : ℕ → ℕ → Type 0} {n x y : ℕ} {g : ℕ → ℕ} → Groups E n g → Linked E x y → g x ≡ g y
 linked-equal {E} {n} {x} {y} {g} G l = kept g (G .together) l
 
+-- a group's number is the number of a cell of the group
+pub own-number : {E : ℕ → ℕ → Type 0} {n x : ℕ} {g : ℕ → ℕ} → Groups E n g → x < n → g (g x) ≡ g x
+own-number {x = x} G h = sym (linked-equal G (G .linked x h))
+
 pub equal-linked : {E : ℕ → ℕ → Type 0} {n x y : ℕ} {g : ℕ → ℕ} → Groups E n g → x < n → y < n → g x ≡ g y → Linked E x y
 equal-linked {E} {n} {x} {y} {g} G hx hy e = joined (G .linked x hx) (rw e (turned (G .linked y hy)))
 

@@ -1,12 +1,12 @@
--- Two quads in both orders are as listed: by computation, and what is refuted by one entry or two. Assumes nothing.
+-- The quads in two orders are as listed: by computation, and what is no case is refuted by a corner or two. Assumes nothing.
 use mathlib.Core.Path.{_≡_, refl, sym, ap, ap₂, _∙_}
-use mathlib.Core.Bool.{true, not, _||_}
+use mathlib.Core.Bool.{Bool, true, not, _&&_, _||_}
 use mathlib.Core.List.{List, [], _∷_}
 use mathlib.Core.Option.{some}
 use Prim.Native.Nat.{ℕ, zero, suc, _+_, _*_, _-_, _%_, _<_}
 use native.Mathlib.Omega.{arith}
-use borrow.Author.Tests.{eqb-true, eq-eqb}
-use lib.Dec.{eqb, lit<}
+use borrow.Author.Tests.{eqb-true, eq-eqb, ltb-true}
+use lib.Dec.{eqb, ltb, lit<}
 use lib.IntN.{pos}
 use lib.ListN.{length, getD}
 use Rattle.cells.specs.Cells.{cell, Has}
@@ -17,62 +17,73 @@ use Rattle.cells.specs.Listed.{In, some-one, Entry, Some}
 use Rattle.cells.specs.Listed.In.{first, later}
 use Rattle.cells.specs.Sums.{total}
 use Rattle.cells.specs.Holes.{holes, places, width, height, held}
-use Rattle.cells.specs.Twin.{same-pair, every-one, Reading}
+use Rattle.cells.specs.Twin.{same-pair, every-one, numbers, Reading}
 use Rattle.cells.specs.Example.{entry, square}
 use Rattle.cells.specs.Reordered.{Reordered, SameCorners}
-use Rattle.cells.specs.Turned.{pairOf, TurnedListing}
-use Rattle.cells.specs.Orders.{opposite, opposite-back, lying, standing, alike, alike-back, Orders}
-use Rattle.cells.proofs.Squares.{four}
-use Rattle.cells.proofs.Tests.{never, implied, every-in, some-in, in-some}
+use Rattle.cells.specs.Turned.{entryPair, TurnedListing}
+use Rattle.cells.specs.Orders.{opposite, opposite-back, lying, standing, alike, alike-back, hung, hung-last, Orders}
+use Rattle.cells.proofs.Unique.{join, reached-back}
+use Rattle.cells.proofs.Squares.{four, quad-laws}
+use Rattle.cells.proofs.Tests.{never, both, implied, every-in, some-in, in-some, below-in}
 use Rattle.cells.proofs.Twin.{same-pair-is, Read, Solves, solve-is}
 use Rattle.cells.proofs.Twin.Solves.{solved}
 use Rattle.cells.proofs.Reseed.{moved-less}
 use Rattle.cells.proofs.Examples.{example-says}
 
--- ---- two quads exchanged
+-- ---- reorderings, by the places where quads go and come from
 
-exchanged : (cells others : List ℕ) → length cells ≡ 8 → length others ≡ 8 → ((i : ℕ) → i < 4 → getD others (4 * 1 + i) 0 ≡ getD cells (4 * 0 + i) 0) → ((i : ℕ) → i < 4 → getD others (4 * 0 + i) 0 ≡ getD cells (4 * 1 + i) 0)
-    → Reordered 4 cells others
-exchanged cells others e f behind front =
+-- the places go where they come from
+abbrev goes : ℕ → (to from : ℕ → ℕ) → Bool
+goes n to from = every-one (λ (q : ℕ). ltb (to q) n && eqb (from (to q)) q) (numbers n)
+
+-- each quad stands where it goes
+abbrev stands : ℕ → (ℕ → ℕ) → (cells others : List ℕ) → Bool
+stands n to cells others = every-one (λ (q : ℕ). every-one (λ (i : ℕ). eqb (getD others (4 * to q + i) 0) (getD cells (4 * q + i) 0)) (numbers 4)) (numbers n)
+
+gone : (n : ℕ) (to from : ℕ → ℕ) → goes n to from ≡ true → (q : ℕ) → q < n → (to q < n) × (from (to q) ≡ q)
+gone n to from t q l =
+    let a = both (ltb (to q) n) (eqb (from (to q)) q) (every-in (λ (q : ℕ). ltb (to q) n && eqb (from (to q)) q) t (below-in n q l)) in
+    (ltb-true _ _ (a .0), eqb-true _ _ (a .1))
+
+reordered-by : (n : ℕ) (to from : ℕ → ℕ) (cells others : List ℕ) → length cells ≡ 4 * n → length others ≡ length cells → goes n to from ≡ true → goes n from to ≡ true → stands n to cells others ≡ true → Reordered 4 cells others
+reordered-by n to from cells others e f there back s =
     record {
-      len = f ∙ sym e;
-      to = λ q. 1 - q;
-      from = λ q. 1 - q;
-      to-has = λ q h. omega arith;
-      from-has = λ q h. omega arith;
-      from-to = λ q h. omega arith;
-      to-from = λ q h. omega arith;
-      same = go;
+      len = f;
+      to = to;
+      from = from;
+      to-has = λ q h. omega (arith, e, f, gone n to from there q (omega (arith, e)) .0);
+      from-has = λ q h. omega (arith, e, f, gone n from to back q (omega (arith, e, f)) .0);
+      from-to = λ q h. gone n to from there q (omega (arith, e)) .1;
+      to-from = λ q h. gone n from to back q (omega (arith, e, f)) .1;
+      same = λ q h i. eqb-true _ _ (every-in (λ (i : ℕ). eqb (getD others (4 * to q + i) 0) (getD cells (4 * q + i) 0)) (every-in (λ (q : ℕ). every-one (λ (i : ℕ). eqb (getD others (4 * to q + i) 0) (getD cells (4 * q + i) 0)) (numbers 4)) s (below-in n q (omega (arith, e)))) (below-in 4 (i % 4) (omega arith)));
     }
-  where
-    go : (q : ℕ) → Has 4 cells q → (i : ℕ) → cell 4 others (1 - q) i ≡ cell 4 cells q i
-    go zero h i = behind (i % 4) (omega arith)
-    go (suc zero) h i = front (i % 4) (omega arith)
-    go (suc (suc q)) h i = absurd (omega arith)
 
--- a quad begun at its next corner
-not-begun-elsewhere : Reordered 4 (0 ∷ 1 ∷ 2 ∷ 3 ∷ []) (1 ∷ 2 ∷ 3 ∷ 0 ∷ []) → ⊥
-not-begun-elsewhere o =
+-- one quad goes to its own place, and each of its corners does
+alone : (a b c d i j k l : ℕ) → Reordered 4 (a ∷ b ∷ c ∷ d ∷ []) (i ∷ j ∷ k ∷ l ∷ []) → (a ≡ i) × (b ≡ j)
+alone a b c d i j k l o =
     let z : o .to 0 ≡ 0 = omega (arith, o .to-has 0 (omega arith)) in
-    let e = rw z at (o .same 0 (omega arith) 0) in
-    omega arith
+    let first-is = rw z at (o .same 0 (omega arith) 0) in
+    let second-is = rw z at (o .same 0 (omega arith) 1) in
+    (sym first-is, sym second-is)
+
+-- the second quad would come from one that begins with 0
+not-for-another : Reordered 4 (0 ∷ 1 ∷ 2 ∷ 3 ∷ 0 ∷ 1 ∷ 2 ∷ 3 ∷ []) opposite → ⊥
+not-for-another o = go (o .from 1) (o .from-has 1 (omega arith)) (rw (o .to-from 1 (omega arith)) at (o .same (o .from 1) (o .from-has 1 (omega arith)) 0))
+  where
+    go : (p : ℕ) → Has 4 (0 ∷ 1 ∷ 2 ∷ 3 ∷ 0 ∷ 1 ∷ 2 ∷ 3 ∷ []) p → 2 ≡ cell 4 (0 ∷ 1 ∷ 2 ∷ 3 ∷ 0 ∷ 1 ∷ 2 ∷ 3 ∷ []) p 0 → ⊥
+    go zero h e = omega arith
+    go (suc zero) h e = omega arith
+    go (suc (suc p)) h e = omega arith
 
 -- ---- steps
 
 there : Next quads opposite 0 1
 there = record { from = omega arith; to = omega arith; two = λ e. omega arith; step = record { x = 1; y = 2; there = record { at = 1; small = lit< tt; starts = refl; ends = refl }; back = record { at = 0; small = lit< tt; starts = refl; ends = refl } } }
 
-back-again : Next quads opposite 1 0
-back-again = record { from = omega arith; to = omega arith; two = λ e. omega arith; step = record { x = 2; y = 1; there = record { at = 0; small = lit< tt; starts = refl; ends = refl }; back = record { at = 1; small = lit< tt; starts = refl; ends = refl } } }
-
-reaches : (p q : ℕ) → p < 2 → q < 2 → Reached quads opposite p q
-reaches zero zero h l = here
-reaches zero (suc zero) h l = on here there
-reaches (suc zero) zero h l = on here back-again
-reaches (suc zero) (suc zero) h l = here
-reaches zero (suc (suc q)) h l = absurd (omega arith)
-reaches (suc zero) (suc (suc q)) h l = absurd (omega arith)
-reaches (suc (suc p)) q h l = absurd (omega arith)
+from-first : (q : ℕ) → q < 2 → Reached quads opposite 0 q
+from-first zero l = here
+from-first (suc zero) l = on here there
+from-first (suc (suc q)) l = absurd (omega arith)
 
 -- corner 5 of the second quad is read where the first reaches it
 read-in : {rs : List Reading} → Solves alike 0 (some rs) → Reached quads alike 0 1 → Read rs 5
@@ -96,18 +107,24 @@ not-same c =
     let a = c .there (entry 0 0 0) (first refl) in
     never (sym (in-some (λ (f : Entry). eqb (f .corner) 0) (a .among) (eq-eqb _ 0 (a .is))))
 
+-- corner 4 is in the other alone
+not-more : SameCorners (square 0 1 2 3) lying → ⊥
+not-more c =
+    let a = c .back (entry 2 0 4) (later (later (later (later (first refl))))) in
+    never (sym (in-some (λ (f : Entry). eqb (f .corner) 4) (a .among) (eq-eqb _ 4 (a .is))))
+
 -- ---- turns
 
-fits-turn : (t : ℕ) (d : Pair) (es fs : List Entry) → every-one (λ (e : Entry). every-one (λ (f : Entry). not (eqb (f .corner) (e .corner)) || same-pair (pairOf f) (moved t d (pairOf e))) fs) es ≡ true
-    → (e f : Entry) → In e es → In f fs → f .corner ≡ e .corner → pairOf f ≡ moved t d (pairOf e)
+fits-turn : (t : ℕ) (d : Pair) (es fs : List Entry) → every-one (λ (e : Entry). every-one (λ (f : Entry). not (eqb (f .corner) (e .corner)) || same-pair (entryPair f) (moved t d (entryPair e))) fs) es ≡ true
+    → (e f : Entry) → In e es → In f fs → f .corner ≡ e .corner → entryPair f ≡ moved t d (entryPair e)
 fits-turn t d es fs h e f i j c =
-    let a = every-in (λ (e : Entry). every-one (λ (f : Entry). not (eqb (f .corner) (e .corner)) || same-pair (pairOf f) (moved t d (pairOf e))) fs) h i in
-    let b = every-in (λ (f : Entry). not (eqb (f .corner) (e .corner)) || same-pair (pairOf f) (moved t d (pairOf e))) a j in
+    let a = every-in (λ (e : Entry). every-one (λ (f : Entry). not (eqb (f .corner) (e .corner)) || same-pair (entryPair f) (moved t d (entryPair e))) fs) h i in
+    let b = every-in (λ (f : Entry). not (eqb (f .corner) (e .corner)) || same-pair (entryPair f) (moved t d (entryPair e))) a j in
     same-pair-is _ _ (implied _ _ b (eq-eqb _ _ c))
 
 -- from one corner to another the turns alone are seen
-step-turned : {es fs : List Entry} (w : TurnedListing es fs) (e f e′ f′ : Entry) → In e es → In f fs → f .corner ≡ e .corner → In e′ es → In f′ fs → f′ .corner ≡ e′ .corner → pairOf f′ ⊖ pairOf f ≡ turns (w .t) (pairOf e′ ⊖ pairOf e)
-step-turned w e f e′ f′ i j c i′ j′ c′ = ap₂ (λ (x y : Pair). x ⊖ y) (w .is (e′, f′) (i′, j′, c′)) (w .is (e, f) (i, j, c)) ∙ moved-less (w .t) (w .d) (pairOf e) (pairOf e′)
+step-turned : {es fs : List Entry} (w : TurnedListing es fs) (e f e′ f′ : Entry) → In e es → In f fs → f .corner ≡ e .corner → In e′ es → In f′ fs → f′ .corner ≡ e′ .corner → entryPair f′ ⊖ entryPair f ≡ turns (w .t) (entryPair e′ ⊖ entryPair e)
+step-turned w e f e′ f′ i j c i′ j′ c′ = ap₂ (λ (x y : Pair). x ⊖ y) (w .is (e′, f′) (i′, j′, c′)) (w .is (e, f) (i, j, c)) ∙ moved-less (w .t) (w .d) (entryPair e) (entryPair e′)
 
 -- east turned is north by one turn alone
 one-turn : (t : ℕ) → t < 4 → (pos 0, pos 1) ≡ turns t (pos 1, pos 0) → t ≡ 1
@@ -128,18 +145,25 @@ pub orders : Orders
 unfolding total holes places width height held
 orders =
     record {
-      opposite-reordered = exchanged opposite opposite-back refl refl (four _ refl refl refl refl) (four _ refl refl refl refl);
-      opposite-joined = record { joined = λ p q lp lq e f. reaches p q lp lq };
+      opposite-reordered = reordered-by 2 (λ q. 1 - q) (λ q. 1 - q) opposite opposite-back refl refl refl refl refl;
+      opposite-joined = record { joined = λ p q lp lq e f. join (reached-back quads quad-laws opposite (from-first p lp)) (from-first q lq) };
       opposite-first = example-says _ refl;
       opposite-second = example-says _ refl;
-      same-corners = record { there = listed-in lying standing refl; back = listed-in standing lying refl };
+      six-corners = record { there = listed-in lying standing refl; back = listed-in standing lying refl };
       turned = record { t = 1; small = lit< tt; d = (pos 1, pos 0); is = λ x i. fits-turn 1 (pos 1, pos 0) lying standing refl (x .0) (x .1) (i .0) (i .1) (i .2) };
       once = turned-once;
-      alike-reordered = exchanged alike alike-back refl refl (four _ refl refl refl refl) (four _ refl refl refl refl);
+      alike-reordered = reordered-by 2 (λ q. 1 - q) (λ q. 1 - q) alike alike-back refl refl refl refl refl;
       alike-not-joined = λ j. not-reached (j .joined 0 1 (lit< tt) (lit< tt) refl refl);
       alike-first = example-says _ refl;
       alike-second = example-says _ refl;
       other-corners = not-same;
-      begun-elsewhere = not-begun-elsewhere;
+      hung-reordered = reordered-by 4 (λ q. (q + 3) % 4) (λ q. (q + 1) % 4) hung hung-last refl refl refl refl refl;
+      hung-first = example-says _ refl;
+      hung-second = example-says _ refl;
+      begun-elsewhere = λ o. omega (arith, alone 0 1 2 3 1 2 3 0 o .0);
+      run-back = λ o. omega (arith, alone 0 1 2 3 0 3 2 1 o .1);
+      for-another = not-for-another;
+      a-word-more = λ o. omega (arith, o .len);
+      more-corners = not-more;
       mirrored = not-mirrored;
     }

@@ -15,6 +15,7 @@ use Rattle.cells.specs.Quads.{turn, OneStep, Square, quads}
 use Rattle.cells.specs.Quads.OneStep.{east, north, west, south}
 use Rattle.cells.proofs.NoMore.{no-more}
 use Rattle.cells.proofs.Whole.{up, down, up-pos, up-negsuc, sum, opp, of-1}
+use Rattle.cells.proofs.Unique.{reached-has}
 use Rattle.cells.proofs.Squares.{square-next, four, side-ends, all-round}
 
 -- ---- heights along chains
@@ -98,8 +99,7 @@ module _ (cells : List ℕ) (n s : ℕ) (count : length cells ≡ 4 * n) (seed :
       omega arith
 
   reached-small : (q : ℕ) → Reached quads cells s q → q < n
-  reached-small q here = seed
-  reached-small q (on r e) = omega arith
+  reached-small q r = omega (arith, count, reached-has quads cells (omega (arith, count)) r)
 
   pub labels-near : {c : ℕ} → ReachedCorner quads cells s c → (up (L c .1) ≤ n) × (down (L c .1) ≤ n)
   labels-near k =

@@ -1,7 +1,6 @@
--- Quads in another order: what fits from the lowest quad in the one, turned and shifted, fits from a quad that it reaches in the other, and
--- back; the lone corners are the same, so that listings have the same corners, with pairs that one turn and one shift take to the others.
--- Assumes nothing.
-use mathlib.Core.Path.{_≡_, sym, ap, _∙_, subst}
+-- Quads in another order: what fits from a quad in the one, turned and shifted, fits from every quad that it reaches in the other; the lone
+-- corners are the same, so that listings have the same corners, with pairs that one turn and one shift take to the others. Assumes nothing.
+use mathlib.Core.Path.{_≡_, sym, ap, _∙_}
 use mathlib.Core.List.{List}
 use Prim.Native.Nat.{ℕ}
 use native.Mathlib.Omega.{arith}
@@ -9,14 +8,14 @@ use lib.IntN.{ℤ, negℤ, _+ℤ_, _-ℤ_}
 use Rattle.cells.specs.Cells.{Has}
 use Rattle.cells.specs.Kind.{Pair, _⊕_, _⊖_, Reached, Fits, Lone}
 use Rattle.cells.specs.Quads.{turns, moved, quads}
-use Rattle.cells.specs.Listed.{In, Entry, Listed}
+use Rattle.cells.specs.Listed.{Entry, Listed}
 use Rattle.cells.specs.Reordered.{Reordered, SameCorners}
-use Rattle.cells.specs.Turned.{pairOf, TurnedListing}
+use Rattle.cells.specs.Turned.{entryPair, OfOneCorner, TurnedListing}
 use Rattle.cells.proofs.Whole.{sum, opp, of, to, pair}
-use Rattle.cells.proofs.Unique.{reached-back}
+use Rattle.cells.proofs.Unique.{reached-has}
 use Rattle.cells.proofs.Squares.{quad-laws}
 use Rattle.cells.proofs.Reseed.{turns-sum, Reseeded, reseed, two-seeds, lone-reseeded}
-use Rattle.cells.proofs.Reorder.{flip, fits-there, lone-there}
+use Rattle.cells.proofs.Reorder.{flip, fits-there, led-home, lone-there}
 
 regroup : (m f a b d : ℤ) → m +ℤ f ≡ (a +ℤ b) +ℤ d → f ≡ b +ℤ ((a +ℤ d) -ℤ m)
 regroup m f a b d e = to (omega (arith, of e, sum m f, sum a b, sum (a +ℤ b) d, sum a d, opp m, sum (a +ℤ d) (negℤ m), sum b ((a +ℤ d) -ℤ m)))
@@ -31,27 +30,21 @@ module _ {cells others : List ℕ} (o : Reordered 4 cells others) {s r : ℕ} (h
   pub fits-led : {L : ℕ → Pair} → Fits quads cells s L → Reseeded others r L
   fits-led f = reseed others (fits-there quads o h f) led
 
-  pub fits-home : {K : ℕ → Pair} → Fits quads others r K → Reseeded cells s K
-  fits-home {K} g =
-      let e = reseed others g (reached-back quads quad-laws others led) in
-      record { t = e .t; small = e .small; d = e .d; fits = subst (λ (z : ℕ). Fits quads cells z (λ c. moved (e .t) (e .d) (K c))) (o .from-to s h) (fits-there quads (flip o) (o .to-has s h) (e .fits)) }
+  pub lone-led : {L K : ℕ → Pair} {c : ℕ} → Fits quads cells s L → Fits quads others r K → Lone quads cells s L c → Lone quads others r K c
+  lone-led f g l = lone-reseeded others (fits-there quads o h f) g led (lone-there quads o h l)
 
-  module _ {L K : ℕ → Pair} (f : Fits quads cells s L) (g : Fits quads others r K) where
-    pub lone-led : {c : ℕ} → Lone quads cells s L c → Lone quads others r K c
-    lone-led l = lone-reseeded others (fits-there quads o h f) g led (lone-there quads o h l)
+module _ {cells others : List ℕ} (o : Reordered 4 cells others) {s r : ℕ} (h : Has 4 cells s) (led : Reached quads others (o .to s) r) {L K : ℕ → Pair} (f : Fits quads cells s L) (g : Fits quads others r K)
+    {es fs : List Entry} (a : Listed quads cells s L es) (b : Listed quads others r K fs) where
+  pub same-corners : SameCorners es fs
+  same-corners =
+      record {
+        there = λ e i. b .every (e .corner) (lone-led o h led f g (a .lone e i));
+        back = λ e i. a .every (e .corner) (lone-led (flip o) (reached-has quads others (o .to-has s h) led) (led-home quads o h quad-laws led) g f (b .lone e i));
+      }
 
-    pub lone-home : {c : ℕ} → Lone quads others r K c → Lone quads cells s L c
-    lone-home {c} l =
-        subst (λ (z : ℕ). Lone quads cells z L c) (o .from-to s h)
-        (lone-there quads (flip o) (o .to-has s h) (lone-reseeded others g (fits-there quads o h f) (reached-back quads quad-laws others led) l))
-
-    module _ {es fs : List Entry} (a : Listed quads cells s L es) (b : Listed quads others r K fs) where
-      pub same-corners : SameCorners es fs
-      same-corners = record { there = λ e i. b .every (e .corner) (lone-led (a .lone e i)); back = λ e i. a .every (e .corner) (lone-home (b .lone e i)) }
-
-      pub turned-listing : TurnedListing es fs
-      turned-listing =
-          let w = two-seeds others (fits-there quads o h f) g led in
-          let there : (x : Entry × Entry) → In (x .0) es × In (x .1) fs × (x .1 .corner ≡ x .0 .corner) → b .least ⊕ pairOf (x .1) ≡ moved (w .t) (w .d) (a .least ⊕ pairOf (x .0)) =
-          λ x i. sym (b .pairs (x .1) (i .1)) ∙ ap K (i .2) ∙ w .is (x .0 .corner) (lone-there quads o h (a .lone (x .0) (i .0)) .reached) ∙ ap (moved (w .t) (w .d)) (a .pairs (x .0) (i .0)) in
-          record { t = w .t; small = w .small; d = (turns (w .t) (a .least) ⊕ w .d) ⊖ b .least; is = λ x i. from-the-least (w .t) (a .least) (b .least) (w .d) (pairOf (x .0)) (pairOf (x .1)) (there x i) }
+  pub turned-listing : TurnedListing es fs
+  turned-listing =
+      let w = two-seeds others (fits-there quads o h f) g led in
+      let there : (x : Entry × Entry) → OfOneCorner es fs x → b .least ⊕ entryPair (x .1) ≡ moved (w .t) (w .d) (a .least ⊕ entryPair (x .0)) =
+      λ x i. sym (b .pairs (x .1) (i .1)) ∙ ap K (i .2) ∙ w .is (x .0 .corner) (lone-there quads o h (a .lone (x .0) (i .0)) .reached) ∙ ap (moved (w .t) (w .d)) (a .pairs (x .0) (i .0)) in
+      record { t = w .t; small = w .small; d = (turns (w .t) (a .least) ⊕ w .d) ⊖ b .least; is = λ x i. from-the-least (w .t) (a .least) (b .least) (w .d) (entryPair (x .0)) (entryPair (x .1)) (there x i) }

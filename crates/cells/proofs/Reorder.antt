@@ -13,10 +13,11 @@ use Rattle.cells.specs.Groups.Linked.{same, on, back}
 use Rattle.cells.specs.Kind.{Pair, Kind, Chain, Next, Reached, ReachedCorner, Fits, Lone}
 use Rattle.cells.specs.Listed.{Grouping, members}
 use Rattle.cells.specs.Reordered.{Reordered, Joined}
-use Rattle.cells.proofs.Groups.{linked-equal, equal-linked}
+use Rattle.cells.proofs.Unique.{Laws, reached-has, reached-back}
+use Rattle.cells.proofs.Groups.{linked-equal, own-number, equal-linked}
 use Rattle.cells.proofs.Counted.{one-count, exactly-by, Below, exactly-how-many}
 
--- the order of before, seen from the other
+-- and back: the cells are the others in another order
 abbrev pub flip : {size : ℕ} {cells others : List ℕ} → Reordered size cells others → Reordered size others cells
 flip {size} {cells} {others} o =
     record {
@@ -49,12 +50,8 @@ module _ (k : Kind) {cells others : List ℕ} (o : Reordered (k .size) cells oth
   reached-there Chain.here = Chain.here
   reached-there (Chain.on r n) = Chain.on (reached-there r) (next-there n)
 
-  reached-has : {s q : ℕ} → Has (k .size) cells s → Reached k cells s q → Has (k .size) cells q
-  reached-has h Chain.here = h
-  reached-has h (Chain.on r n) = n .to
-
   corner-there : {s c : ℕ} → Has (k .size) cells s → ReachedCorner k cells s c → ReachedCorner k others (o .to s) c
-  corner-there h r = record { of = o .to (r .of); reached = reached-there (r .reached); place = r .place; small = r .small; is = o .same (r .of) (reached-has h (r .reached)) (r .place) ∙ r .is }
+  corner-there h r = record { of = o .to (r .of); reached = reached-there (r .reached); place = r .place; small = r .small; is = o .same (r .of) (reached-has k cells h (r .reached)) (r .place) ∙ r .is }
 
 module _ (k : Kind) {cells others : List ℕ} (o : Reordered (k .size) cells others) {s : ℕ} (h : Has (k .size) cells s) where
   corner-back : {c : ℕ} → ReachedCorner k others (o .to s) c → ReachedCorner k cells s c
@@ -69,6 +66,10 @@ module _ (k : Kind) {cells others : List ℕ} (o : Reordered (k .size) cells oth
             let b : k .Holds L (cell (k .size) cells (o .from p)) (cell (k .size) cells (o .from q)) = f .holds (o .from p) (o .from q) r₀ (next-there k (flip o) n) in
             rw (whole-cell (flip o) p (n .from), whole-cell (flip o) q (n .to)) at b;
       }
+
+  -- where the cell of the one reaches r in the other, the cell of r reaches it
+  pub led-home : Laws k → {r : ℕ} → Reached k others (o .to s) r → Reached k cells (o .from r) s
+  led-home w {r} c = subst (Reached k cells (o .from r)) (o .from-to s h) (reached-there k (flip o) (reached-back k w others c))
 
   pub lone-there : {L : ℕ → Pair} {c : ℕ} → Lone k cells s L c → Lone k others (o .to s) L c
   lone-there l = record { reached = corner-there k o h (l .reached); alone = λ d r e. l .alone d (corner-back r) e }
@@ -85,25 +86,26 @@ module _ {size : ℕ} {cells others : List ℕ} (o : Reordered size cells others
   linked-there (on l n) = on (linked-there l) (neighbours-there n)
   linked-there (back l n) = back (linked-there l) (neighbours-there n)
 
--- the groups of both lists, of which each has as many cells as its grouping says
-module _ (k : Kind) {cells others : List ℕ} (o : Reordered (k .size) cells others) (g h : Grouping) (as-many : h .n ≡ g .n) (has : (q : ℕ) → q < g .n → Has (k .size) cells q) (few : (q : ℕ) → Has (k .size) cells q → q < g .n)
+-- the groups of both lists, where the numbers below n are exactly those of the list's cells
+module _ (k : Kind) {cells others : List ℕ} (o : Reordered (k .size) cells others) (g h : Grouping) (as-many : h .n ≡ g .n) (has : (q : ℕ) → q < g .n → Has (k .size) cells q) (below : (q : ℕ) → Has (k .size) cells q → q < g .n)
     (G : Groups (Neighbours (k .size) cells everyone) (g .n) (g .number)) (H : Groups (Neighbours (k .size) others everyone) (h .n) (h .number)) where
   has-there : (q : ℕ) → q < g .n → Has (k .size) others q
   has-there q l = omega (arith, o .len, has q l)
 
   small-there : (q : ℕ) → q < g .n → o .to q < h .n
-  small-there q l = omega (arith, as-many, few (o .to q) (omega (arith, o .len, o .to-has q (has q l))))
+  small-there q l = omega (arith, as-many, below (o .to q) (omega (arith, o .len, o .to-has q (has q l))))
 
   small-back : (q : ℕ) → q < h .n → o .from q < g .n
-  small-back q l = few (o .from q) (o .from-has q (has-there q (omega (arith, as-many))))
+  small-back q l = below (o .from q) (o .from-has q (has-there q (omega (arith, as-many))))
 
   there-again : (q : ℕ) → q < h .n → o .to (o .from q) ≡ q
   there-again q l = o .to-from q (has-there q (omega (arith, as-many)))
 
-  group-there : (p q : ℕ) → p < g .n → q < g .n → g .number p ≡ g .number q → h .number (o .to p) ≡ h .number (o .to q)
+  -- two cells are in one group here exactly when they are there
+  pub group-there : (p q : ℕ) → p < g .n → q < g .n → g .number p ≡ g .number q → h .number (o .to p) ≡ h .number (o .to q)
   group-there p q lp lq e = linked-equal H (linked-there o (equal-linked G lp lq e))
 
-  group-back : (p q : ℕ) → p < g .n → q < g .n → h .number (o .to p) ≡ h .number (o .to q) → g .number p ≡ g .number q
+  pub group-back : (p q : ℕ) → p < g .n → q < g .n → h .number (o .to p) ≡ h .number (o .to q) → g .number p ≡ g .number q
   group-back p q lp lq e =
       let l = linked-there (flip o) (equal-linked H (small-there p lp) (small-there q lq) e) in
       linked-equal G (rw (o .from-to p (has p lp), o .from-to q (has q lq)) at l)
@@ -141,6 +143,5 @@ module _ (k : Kind) {cells others : List ℕ} (o : Reordered (k .size) cells oth
     pub led : Joined k cells g s → Reached k others (o .to s) r
     led j =
         let far : r < h .n = omega (arith, H .lowest (o .to q) (small-there q l), small-there q l) in
-        let lowest : h .number r ≡ r = sym (linked-equal H (H .linked (o .to q) (small-there q l))) in
-        let chain = j .joined s (o .from r) (omega (arith, G .lowest q l)) (small-back r far) (sym (linked-equal G (G .linked q l))) (home r far lowest) in
+        let chain = j .joined s (o .from r) (omega (arith, G .lowest q l)) (small-back r far) (own-number G l) (home r far (own-number H (small-there q l))) in
         subst (Reached k others (o .to s)) (there-again r far) (reached-there k o chain)

@@ -13,7 +13,7 @@ use Rattle.cells.specs.Quads.{turn, turns, moved, OneStep, Square, quads
 use Rattle.cells.specs.Quads.OneStep.{east, north, west, south}
 use Rattle.cells.specs.Turned.{Turned}
 use Rattle.cells.proofs.Whole.{sum, opp, of, to, pair, up-pos}
-use Rattle.cells.proofs.Unique.{join, reached-back, one-labelling}
+use Rattle.cells.proofs.Unique.{join, reached-back, corner-from, one-labelling}
 use Rattle.cells.proofs.Squares.{turn-step, square-forced, first-square, four, quad-laws, all-round, fits-round}
 
 -- ---- turning and shifting go through differences and sums
@@ -125,15 +125,11 @@ module _ (cells : List ℕ) where
       let w = eastward (all-round cells f h .side) in
       record { t = w .t; small = w .small; d = origin ⊖ turns (w .t) (L (cell 4 cells r 0)); fits = turned-east f h (w .t) (w .is) }
 
-  -- a corner reached from s is reached from every quad that s reaches
-  same-corners : {s r c : ℕ} → Reached quads cells s r → ReachedCorner quads cells s c → ReachedCorner quads cells r c
-  same-corners h k = record { of = k .of; reached = join (reached-back quads quad-laws cells h) (k .reached); place = k .place; small = k .small; is = k .is }
-
   -- whatever fits from a reached quad differs by a turn and a shift
   pub two-seeds : {s r : ℕ} {L M : ℕ → Pair} → Fits quads cells s L → Fits quads cells r M → Reached quads cells s r → Turned (ReachedCorner quads cells s) L M
   two-seeds f g h =
       let e = reseed f h in
-      record { t = e .t; small = e .small; d = e .d; is = λ c k. one-labelling quads quad-laws cells g (e .fits) (same-corners h k) }
+      record { t = e .t; small = e .small; d = e .d; is = λ c k. one-labelling quads quad-laws cells g (e .fits) (corner-from quads quad-laws cells h k) }
 
   -- and leaves the same corners lone
   pub lone-reseeded : {s r c : ℕ} {L M : ℕ → Pair} → Fits quads cells s L → Fits quads cells r M → Reached quads cells s r → Lone quads cells s L c → Lone quads cells r M c
@@ -141,6 +137,6 @@ module _ (cells : List ℕ) where
       let b = reached-back quads quad-laws cells h in
       let w = two-seeds g f b in
       record {
-        reached = same-corners h (l .reached);
-        alone = λ d k e. l .alone d (same-corners b k) (w .is d k ∙ ap (moved (w .t) (w .d)) e ∙ sym (w .is c (same-corners h (l .reached))));
+        reached = corner-from quads quad-laws cells h (l .reached);
+        alone = λ d k e. l .alone d (corner-from quads quad-laws cells b k) (w .is d k ∙ ap (moved (w .t) (w .d)) e ∙ sym (w .is c (corner-from quads quad-laws cells h (l .reached))));
       }

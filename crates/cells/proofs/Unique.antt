@@ -1,9 +1,9 @@
--- Over every kind that has its three laws: chains join and go back, what is reached is in the seed's group, and two assignments that fit
--- agree on every reached corner, so on which are lone. Assumes nothing.
+-- Over every kind that has its three laws: chains join and go back, what is reached is in the list and in the seed's group, and two
+-- assignments that fit agree on every reached corner, so on which are lone. Assumes nothing.
 use mathlib.Core.Path.{_≡_, refl, sym, _∙_, subst}
 use mathlib.Core.List.{List}
 use Prim.Native.Nat.{ℕ, _<_}
-use Rattle.cells.specs.Cells.{Cell, Touch, cell, Neighbours, everyone}
+use Rattle.cells.specs.Cells.{Cell, Touch, cell, Has, Neighbours, everyone}
 use Rattle.cells.specs.Groups.{Linked}
 use Rattle.cells.specs.Kind.{Pair, Kind, Chain, Next, Reached, ReachedCorner, Fits, Lone}
 use Rattle.cells.specs.Kind.Chain.{here, on}
@@ -23,12 +23,21 @@ chain-back : {E : ℕ → ℕ → Type 0} {s q : ℕ} → ((x y : ℕ) → E x y
 chain-back b here = here
 chain-back b (on {p} {q} r n) = join (on here (b p q n)) (chain-back b r)
 
+-- what is reached is in the list
+pub reached-has : (k : Kind) (cells : List ℕ) {s q : ℕ} → Has (k .size) cells s → Reached k cells s q → Has (k .size) cells q
+reached-has k cells h here = h
+reached-has k cells h (on r n) = n .to
+
 module _ (k : Kind) (w : Laws k) (cells : List ℕ) where
   next-back : (p q : ℕ) → Next k cells p q → Next k cells q p
   next-back p q n = record { from = n .to; to = n .from; two = λ e. n .two (sym e); step = w .back (n .step) }
 
   pub reached-back : {s q : ℕ} → Reached k cells s q → Reached k cells q s
   reached-back r = chain-back next-back r
+
+  -- a corner reached from s is reached from every cell that s reaches
+  pub corner-from : {s r c : ℕ} → Reached k cells s r → ReachedCorner k cells s c → ReachedCorner k cells r c
+  corner-from h c = record { of = c .of; reached = join (reached-back h) (c .reached); place = c .place; small = c .small; is = c .is }
 
   -- what is reached is in the group
   pub reached-linked : {s q : ℕ} → Reached k cells s q → Linked (Neighbours (k .size) cells everyone) s q

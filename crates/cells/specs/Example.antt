@@ -3,7 +3,7 @@
 use mathlib.Core.Path.{_≡_}
 use mathlib.Core.List.{List, [], _∷_, map}
 use Prim.Native.Nat.{ℕ, _/_}
-use lib.ListN.{length, getD}
+use lib.ListN.{length, getD, replicate}
 use Rattle.cells.specs.Cells.{Neighbours, everyone}
 use Rattle.cells.specs.Groups.{Groups}
 use Rattle.cells.specs.Quads.{quads}
@@ -42,6 +42,10 @@ square a b c d = entry 0 0 a ∷ entry 0 1 d ∷ entry 1 0 b ∷ entry 1 1 c ∷
 
 abbrev pub whole : List Entry → Told
 whole es = record { entries = es; gaps = 0 }
+
+-- quads that are one group, the least quads and corners, and the components
+abbrev pub one-group : List ℕ → ℕ → ℕ → List Told → Example
+one-group quads least-quads least-corners answer = record { cells = quads; groups = replicate (length quads / 4) 0; least-quads = least-quads; least-corners = least-corners; answer = answer }
 
 -- the shift is over listed corners, not reached ones; only reached quads must fit; two groups share a corner; a component has no entries,
 -- since each of the eight places is claimed twice; an L of three quads and a U of six have no hole, though (2,2) holds no corner; and a ring

@@ -22,7 +22,7 @@ pub record Reordered (size : ℕ) (cells others : List ℕ) : Type 0 where
 pub record Joined (k : Kind) (cells : List ℕ) (g : Grouping) (s : ℕ) : Type 0 where
   pub joined : (p q : ℕ) → p < g .n → q < g .n → g .number p ≡ s → g .number q ≡ s → Reached k cells p q
 
--- a corner that the one lists, the other lists
+-- the two list the same corners
 pub record SameCorners (es fs : List Entry) : Type 0 where
   pub there : (e : Entry) → In e es → Some fs (λ f. f .corner ≡ e .corner)
   pub back : (f : Entry) → In f fs → Some es (λ e. e .corner ≡ f .corner)

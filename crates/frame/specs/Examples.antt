@@ -3,10 +3,10 @@
 use mathlib.Core.Path.{_≡_}
 use mathlib.Core.Bool.{true, false}
 use mathlib.Core.List.{List, [], _∷_}
-use Prim.Native.Nat.{ℕ, _/_}
+use Prim.Native.Nat.{ℕ}
 use lib.Ieee as Ieee
 use lib.Ieee.{Float}
-use lib.ListN.{length, replicate}
+use lib.ListN.{replicate}
 use Rattle.measure.specs.declared.Measured.the-variants.{Known}
 use Rattle.measure.specs.Float.{bits, fraction}
 use Rattle.measure.specs.Angle.{angleOf}
@@ -16,7 +16,7 @@ use Rattle.cells.specs.Kind.{Pair, Fits}
 use Rattle.cells.specs.Quads.{quads}
 use Rattle.cells.specs.Listed.{Entry}
 use Rattle.cells.specs.Holes.{holes}
-use Rattle.cells.specs.Example.{Told, Example, Says, entry, square, whole}
+use Rattle.cells.specs.Example.{Told, Says, entry, square, whole, one-group}
 use Rattle.filter.specs.Median.{Median}
 use Rattle.filter.specs.Topology.{incidence, illegal}
 use Rattle.filter.specs.Worked.{five, pairs}
@@ -25,10 +25,6 @@ use Rattle.frame.specs.Stages.{Input, Answer}
 -- four quads round corner 0 that close; `five` are five, and `pairs` the sides 1, 1, 2, 2
 abbrev pub four : List ℕ
 four = 0 ∷ 1 ∷ 2 ∷ 3 ∷ 0 ∷ 3 ∷ 4 ∷ 5 ∷ 0 ∷ 5 ∷ 6 ∷ 7 ∷ 0 ∷ 7 ∷ 8 ∷ 1 ∷ []
-
--- quads that are one group, the least quads and corners, and the components
-abbrev pub one-group : List ℕ → ℕ → ℕ → List Told → Example
-one-group quads least-quads least-corners answer = record { cells = quads; groups = replicate (length quads / 4) 0; least-quads = least-quads; least-corners = least-corners; answer = answer }
 
 -- four quads round corner 0 of which the last does not close
 abbrev pub four-round : List ℕ

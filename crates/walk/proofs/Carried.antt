@@ -1,5 +1,6 @@
--- Two stations, the same quads in another order. Of a group that is joined through sides run in opposite senses, steps lead from its lowest
--- quad to the lowest of the other station, and it has all that is demanded in the one exactly when in the other. Assumes nothing.
+-- Two calls that are done, the same quads in another order. Of a group that is joined through sides run in opposite senses, steps lead from
+-- its lowest quad to the one that is the lowest in the other, and it has all that is demanded in the one exactly when in the other. Assumes
+-- nothing.
 use mathlib.Core.Path.{_≡_, sym, ap, subst}
 use Prim.Native.Nat.{ℕ, _<_}
 use native.Mathlib.Omega.{arith}
@@ -8,71 +9,78 @@ use Rattle.cells.specs.Kind.{Reached}
 use Rattle.cells.specs.Quads.{quads}
 use Rattle.cells.specs.Listed.{members, Component}
 use Rattle.cells.specs.Reordered.{Reordered, Joined}
-use Rattle.cells.proofs.Groups.{linked-equal}
-use Rattle.cells.proofs.Reorder.{members-there, led}
-use Rattle.cells.proofs.Relisted.{fits-led, fits-home, lone-led, lone-home}
+use Rattle.cells.proofs.Unique.{reached-has}
+use Rattle.cells.proofs.Squares.{quad-laws}
+use Rattle.cells.proofs.Groups.{own-number}
+use Rattle.cells.proofs.Reorder.{flip, led-home, group-there, group-back, members-there, led}
+use Rattle.cells.proofs.Relisted.{fits-led, lone-led}
 use Rattle.fates.specs.declared.LabelParams.{LabelParams}
-use Rattle.walk.specs.Input.{quadCount}
+use Rattle.walk.specs.Input.{Input, quadCount, grouping}
+use Rattle.walk.specs.Call.{Outcome}
 use Rattle.walk.specs.Demanded.{AtLeast, Demanded}
-use Rattle.walk.specs.Stations.{Station, groupingOf, HasComponent, listing}
+use Rattle.walk.specs.DoneCall.{DoneCall, groupingOf, HasComponent, listing}
+use Rattle.walk.proofs.Reasons.{at-least-over}
 use Rattle.walk.proofs.Demand.{exists, of-a-group}
 
--- ---- demand 3 of a station
+-- ---- demand 3 of a done call
 
-module _ (x : Station) (q : ℕ) where
-  pub has-exactly : q < quadCount (x .input)
-      → (HasComponent x q → Demanded (x .input) (x .number) (x .number q)) × (Demanded (x .input) (x .number) (x .number q) → HasComponent x q)
+module _ {i : Input} {o : Outcome} (x : DoneCall i o) (q : ℕ) where
+  pub has-exactly : q < quadCount i → (HasComponent x q → Demanded i (x .number) (x .number q)) × (Demanded i (x .number) (x .number q) → HasComponent x q)
   has-exactly l =
-      exists (x .input) (x .work) (x .components) (x .entries) (x .outcome) (x .allowed) (x .k) (x .l) (x .done) (x .number) (x .groups) (x .seed) (x .seeds) (x .number q)
-      (omega (arith, x .groups .lowest q l)) (sym (linked-equal (x .groups) (x .groups .linked q l)))
+      exists i (x .work) (x .components) (x .entries) o (x .allowed) (x .k) (x .l) (x .done) (x .number) (x .groups) (x .seed) (x .seeds) (x .number q)
+      (omega (arith, x .groups .lowest q l)) (own-number (x .groups) l)
 
-  pub component-of : (a : HasComponent x q) → Component quads (x .input .quads) (groupingOf x) (x .number q) (listing x (a .at))
+  pub component-of : (a : HasComponent x q) → Component quads (i .quads) (groupingOf x) (x .number q) (listing o (a .at))
   component-of a =
-      subst (λ (s : ℕ). Component quads (x .input .quads) (groupingOf x) s (listing x (a .at))) (a .is)
-      (of-a-group (x .input) (x .work) (x .components) (x .entries) (x .outcome) (x .allowed) (x .k) (x .l) (x .done) (x .number) (x .groups) (x .seed) (x .seeds) (a .at) (a .small))
+      subst (λ (s : ℕ). Component quads (i .quads) (groupingOf x) s (listing o (a .at))) (a .is)
+      (of-a-group i (x .work) (x .components) (x .entries) o (x .allowed) (x .k) (x .l) (x .done) (x .number) (x .groups) (x .seed) (x .seeds) (a .at) (a .small))
 
-  pub lowest-has : q < quadCount (x .input) → Has 4 (x .input .quads) (x .number q)
+  pub lowest-has : q < quadCount i → Has 4 (i .quads) (x .number q)
   lowest-has l = omega (arith, x .groups .lowest q l)
 
 -- ---- from the one to the other
 
-at-least-over : {P Q : ℕ → Type 0} {t u : ℕ} → u ≡ t → ((c : ℕ) → P c → Q c) → AtLeast P t → AtLeast Q u
-at-least-over e h a = record { pick = a .pick; each = λ k l. h (a .pick k) (a .each k (omega arith)); apart = λ j k lj lk. a .apart j k (omega arith) (omega arith) }
+-- where s of the one reaches r in the other, and their groups have as many quads
+demanded-over : {i j : Input} {N M : ℕ → ℕ} {s r : ℕ} (o : Reordered 4 (i .quads) (j .quads)) → Has 4 (i .quads) s → Reached quads (j .quads) (o .to s) r
+    → members quads (i .quads) (grouping i N) s ≡ members quads (j .quads) (grouping j M) r → j .params ≡ i .params → Demanded i N s → Demanded j M r
+demanded-over o h led many least d =
+    let e = fits-led o h led (d .fits) in
+    record {
+      enough = omega (arith, many, d .enough, ap (λ (p : LabelParams). p .quads) least);
+      L = _;
+      fits = e .fits;
+      corners = subst (AtLeast _) (ap (λ (p : LabelParams). p .corners) (sym least)) (at-least-over (λ c l. lone-led o h led (d .fits) (e .fits) l) (d .corners));
+    }
 
-module _ (one other : Station) (o : Reordered 4 (one .input .quads) (other .input .quads)) (q : ℕ) (small : q < quadCount (one .input)) where
-  as-many : quadCount (other .input) ≡ quadCount (one .input)
+module _ {i j : Input} {p r : Outcome} (one : DoneCall i p) (other : DoneCall j r) (o : Reordered 4 (i .quads) (j .quads)) where
+  as-many : quadCount j ≡ quadCount i
   as-many = omega (arith, o .len)
 
-  has : (p : ℕ) → p < quadCount (one .input) → Has 4 (one .input .quads) p
-  has p l = omega arith
+  has : (q : ℕ) → q < quadCount i → Has 4 (i .quads) q
+  has q l = omega arith
 
-  few : (p : ℕ) → Has 4 (one .input .quads) p → p < quadCount (one .input)
-  few p l = omega arith
+  below : (q : ℕ) → Has 4 (i .quads) q → q < quadCount i
+  below q h = omega arith
 
-  members-same : members quads (one .input .quads) (groupingOf one) (one .number q) ≡ members quads (other .input .quads) (groupingOf other) (other .number (o .to q))
-  members-same = members-there quads o (groupingOf one) (groupingOf other) as-many has few (one .groups) (other .groups) q small
+  pub same-group : (a b : ℕ) → a < quadCount i → b < quadCount i
+      → (one .number a ≡ one .number b → other .number (o .to a) ≡ other .number (o .to b)) × (other .number (o .to a) ≡ other .number (o .to b) → one .number a ≡ one .number b)
+  same-group a b la lb = (
+    group-there quads o (groupingOf one) (groupingOf other) as-many has below (one .groups) (other .groups) a b la lb,
+    group-back quads o (groupingOf one) (groupingOf other) as-many has below (one .groups) (other .groups) a b la lb,
+  )
 
-  module _ (joined : Joined quads (one .input .quads) (groupingOf one) (one .number q)) where
-    pub to-the-lowest : Reached quads (other .input .quads) (o .to (one .number q)) (other .number (o .to q))
-    to-the-lowest = led quads o (groupingOf one) (groupingOf other) as-many has few (one .groups) (other .groups) q small joined
+  module _ (q : ℕ) (small : q < quadCount i) where
+    members-same : members quads (i .quads) (groupingOf one) (one .number q) ≡ members quads (j .quads) (groupingOf other) (other .number (o .to q))
+    members-same = members-there quads o (groupingOf one) (groupingOf other) as-many has below (one .groups) (other .groups) q small
 
-    module _ (least : other .input .params ≡ one .input .params) where
-      pub demanded-there : Demanded (one .input) (one .number) (one .number q) → Demanded (other .input) (other .number) (other .number (o .to q))
-      demanded-there d =
-          let e = fits-led o (lowest-has one q small) to-the-lowest (d .fits) in
-          record {
-            enough = omega (arith, members-same, d .enough, ap (λ (p : LabelParams). p .quads) least);
-            L = _;
-            fits = e .fits;
-            corners = at-least-over (ap (λ (p : LabelParams). p .corners) least) (λ c l. lone-led o (lowest-has one q small) to-the-lowest (d .fits) (e .fits) l) (d .corners);
-          }
+    module _ (joined : Joined quads (i .quads) (groupingOf one) (one .number q)) where
+      pub to-the-lowest : Reached quads (j .quads) (o .to (one .number q)) (other .number (o .to q))
+      to-the-lowest = led quads o (groupingOf one) (groupingOf other) as-many has below (one .groups) (other .groups) q small joined
 
-      pub demanded-home : Demanded (other .input) (other .number) (other .number (o .to q)) → Demanded (one .input) (one .number) (one .number q)
-      demanded-home d =
-          let e = fits-home o (lowest-has one q small) to-the-lowest (d .fits) in
-          record {
-            enough = omega (arith, members-same, d .enough, ap (λ (p : LabelParams). p .quads) least);
-            L = _;
-            fits = e .fits;
-            corners = at-least-over (sym (ap (λ (p : LabelParams). p .corners) least)) (λ c l. lone-home o (lowest-has one q small) to-the-lowest (e .fits) (d .fits) l) (d .corners);
-          }
+      pub demanded-same : j .params ≡ i .params
+          → (Demanded i (one .number) (one .number q) → Demanded j (other .number) (other .number (o .to q))) × (Demanded j (other .number) (other .number (o .to q)) → Demanded i (one .number) (one .number q))
+      demanded-same least =
+          let h = lowest-has one q small in (
+            demanded-over o h to-the-lowest members-same least,
+            demanded-over (flip o) (reached-has quads (j .quads) (o .to-has (one .number q) h) to-the-lowest) (led-home quads o h quad-laws to-the-lowest) (sym members-same) (sym least),
+          )

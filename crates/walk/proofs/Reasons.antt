@@ -39,6 +39,9 @@ one-lone-count cells s L M f g x y =
 pub some-of : {P : ℕ → Type 0} {t n : ℕ} → Exactly P n → t ≤ n → AtLeast P t
 some-of x h = record { pick = x .pick; each = λ k l. x .each k (omega arith); apart = λ j k lj lk. x .apart j k (omega arith) (omega arith) }
 
+pub at-least-over : {P Q : ℕ → Type 0} {t : ℕ} → ((c : ℕ) → P c → Q c) → AtLeast P t → AtLeast Q t
+at-least-over h a = record { pick = a .pick; each = λ k l. h (a .pick k) (a .each k l); apart = a .apart }
+
 pub no-more-than : {P : ℕ → Type 0} {t n : ℕ} → Exactly P n → AtLeast P t → t ≤ n
 no-more-than {t = t} {n} x a =
     no-more t n (λ k l. x .every (a .pick k) (a .each k l) .at) (λ k l. x .every (a .pick k) (a .each k l) .small)
@@ -58,8 +61,4 @@ module _ (i : Input) (number : ℕ → ℕ) (s : ℕ) where
   pub not-both : Lacks i number s → Demanded i number s → ⊥
   not-both (few-quads h) d = omega (arith, d .enough)
   not-both (no-assignment h r) d = r (d .L) (d .fits)
-  not-both (few-lone h L f r) d = r (record {
-    pick = d .corners .pick;
-    each = λ k l. one-lone quads quad-laws (i .quads) (d .fits) f (d .corners .each k l);
-    apart = d .corners .apart;
-  })
+  not-both (few-lone h L f r) d = r (at-least-over (λ c l. one-lone quads quad-laws (i .quads) (d .fits) f l) (d .corners))

@@ -3,6 +3,6 @@ pub mod Call
 pub mod Read
 pub mod Demanded
 pub mod Wanted
-pub mod Stations
+pub mod DoneCall
 pub mod Single
 pub mod inner

@@ -40,16 +40,7 @@ impl Places {
 
     /// The components that a call has written.
     pub fn add_told(&mut self, told: &Told<2, 3>) {
-        let Ok([components, _]) = told.result else {
-            return;
-        };
-        let [_, records, listed] = &told.lists;
-        let (listed, _) = listed.as_chunks();
-        let entry = |&[u, v, corner]: &[u32; 3]| Entry { u: u as i32, v: v as i32, corner };
-        for &[before, count, _] in &records.as_chunks().0[..components] {
-            let own = &listed[before as usize..][..count as usize];
-            self.add(&own.iter().map(entry).collect::<Vec<_>>());
-        }
+        told.components().iter().for_each(|component| self.add(&component.entries));
     }
 }
 

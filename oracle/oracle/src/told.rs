@@ -1,6 +1,7 @@
 // What a call tells and leaves, whole, so that two answers to one call can be held together.
 
 use crate::judge::Refusal;
+use frame::{Component, Entry};
 
 /// The counts that a call gives or its refusal, and the final content of every list that it may
 /// change.
@@ -41,6 +42,21 @@ impl Told<0, 2> {
         let (mut classes, mut fits) = (classes.to_vec(), fits.to_vec());
         let result = call(&mut classes, &mut fits).map(|()| []);
         Told { result, lists: [classes, fits.iter().map(|fit| fit.to_bits()).collect()] }
+    }
+}
+
+impl Told<2, 3> {
+    /// The components that a call which labels has written; none where it refused.
+    pub fn components(&self) -> Vec<Component> {
+        let [_, records, listed] = &self.lists;
+        let (records, listed) = (records.as_chunks().0, listed.as_chunks().0);
+        let entry = |&[u, v, corner]: &[u32; 3]| Entry { u: u as i32, v: v as i32, corner };
+        let component = |&[before, count, holes]: &[u32; 3]| {
+            let own = &listed[before as usize..][..count as usize];
+            Component { entries: own.iter().map(entry).collect(), holes }
+        };
+        let count = self.result.map_or(0, |[components, _]| components);
+        records[..count].iter().map(component).collect()
     }
 }
 
