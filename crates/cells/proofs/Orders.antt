@@ -32,7 +32,7 @@ use Rattle.cells.proofs.Examples.{example-says}
 
 -- ---- reorderings, by the places where quads go and come from
 
--- the places go where they come from
+-- each place goes to a place, and comes back from it
 abbrev goes : ℕ → (to from : ℕ → ℕ) → Bool
 goes n to from = every-one (λ (q : ℕ). ltb (to q) n && eqb (from (to q)) q) (numbers n)
 
@@ -146,7 +146,7 @@ unfolding total holes places width height held
 orders =
     record {
       opposite-reordered = reordered-by 2 (λ q. 1 - q) (λ q. 1 - q) opposite opposite-back refl refl refl refl refl;
-      opposite-joined = record { joined = λ p q lp lq e f. join (reached-back quads quad-laws opposite (from-first p lp)) (from-first q lq) };
+      opposite-joined = record { joined = λ p q lp lq e f. join (reached-back quads quad-laws opposite (from-first p (omega arith))) (from-first q (omega arith)) };
       opposite-first = example-says _ refl;
       opposite-second = example-says _ refl;
       six-corners = record { there = listed-in lying standing refl; back = listed-in standing lying refl };
