@@ -22,6 +22,7 @@ pub mod ByRoom
 pub mod Demand
 pub mod Carried
 pub mod Order
+pub mod TwoCalls
 pub mod Sound
 pub mod Rooms
 pub mod Outcomes

@@ -4,5 +4,6 @@ pub mod Read
 pub mod Demanded
 pub mod Wanted
 pub mod DoneCall
+pub mod TwoCalls
 pub mod Single
 pub mod inner
