@@ -20,7 +20,7 @@ use Rattle.cells.specs.Holes.{holes, places, width, height, held}
 use Rattle.cells.specs.Twin.{same-pair, every-one, numbers, Reading}
 use Rattle.cells.specs.Example.{entry, square}
 use Rattle.cells.specs.Reordered.{Reordered, SameCorners}
-use Rattle.cells.specs.Turned.{entryPair, TurnedListing}
+use Rattle.cells.specs.Turned.{entryPair, OfOneCorner, TurnedListing}
 use Rattle.cells.specs.Orders.{opposite, opposite-back, lying, standing, alike, alike-back, hung, hung-last, Orders}
 use Rattle.cells.proofs.Unique.{join, reached-back}
 use Rattle.cells.proofs.Squares.{four, quad-laws}
@@ -36,9 +36,12 @@ use Rattle.cells.proofs.Examples.{example-says}
 abbrev goes : ℕ → (to from : ℕ → ℕ) → Bool
 goes n to from = every-one (λ (q : ℕ). ltb (to q) n && eqb (from (to q)) q) (numbers n)
 
--- each quad stands where it goes
+-- each quad stands where it goes, each of its corners as it stood
+abbrev corner-stands : (ℕ → ℕ) → (cells others : List ℕ) → ℕ → ℕ → Bool
+corner-stands to cells others q i = eqb (getD others (4 * to q + i) 0) (getD cells (4 * q + i) 0)
+
 abbrev stands : ℕ → (ℕ → ℕ) → (cells others : List ℕ) → Bool
-stands n to cells others = every-one (λ (q : ℕ). every-one (λ (i : ℕ). eqb (getD others (4 * to q + i) 0) (getD cells (4 * q + i) 0)) (numbers 4)) (numbers n)
+stands n to cells others = every-one (λ (q : ℕ). every-one (corner-stands to cells others q) (numbers 4)) (numbers n)
 
 gone : (n : ℕ) (to from : ℕ → ℕ) → goes n to from ≡ true → (q : ℕ) → q < n → (to q < n) × (from (to q) ≡ q)
 gone n to from t q l =
@@ -55,7 +58,7 @@ reordered-by n to from cells others e f there back s =
       from-has = λ q h. omega (arith, e, f, gone n from to back q (omega (arith, e, f)) .0);
       from-to = λ q h. gone n to from there q (omega (arith, e)) .1;
       to-from = λ q h. gone n from to back q (omega (arith, e, f)) .1;
-      same = λ q h i. eqb-true _ _ (every-in (λ (i : ℕ). eqb (getD others (4 * to q + i) 0) (getD cells (4 * q + i) 0)) (every-in (λ (q : ℕ). every-one (λ (i : ℕ). eqb (getD others (4 * to q + i) 0) (getD cells (4 * q + i) 0)) (numbers 4)) s (below-in n q (omega (arith, e)))) (below-in 4 (i % 4) (omega arith)));
+      same = λ q h i. eqb-true _ _ (every-in (corner-stands to cells others q) (every-in (λ (q : ℕ). every-one (corner-stands to cells others q) (numbers 4)) s (below-in n q (omega (arith, e)))) (below-in 4 (i % 4) (omega arith)));
     }
 
 -- one quad goes to its own place, and each of its corners does
@@ -96,47 +99,57 @@ not-reached r =
 
 -- ---- corners
 
-listed-in : (es fs : List Entry) → every-one (λ (e : Entry). some-one (λ (f : Entry). eqb (f .corner) (e .corner)) fs) es ≡ true → (e : Entry) → In e es → Some fs (λ f. f .corner ≡ e .corner)
+-- an entry is of the corner; one of the entries is of the corner of e
+abbrev of-corner : ℕ → Entry → Bool
+of-corner c f = eqb (f .corner) c
+
+abbrev lists : List Entry → Entry → Bool
+lists fs e = some-one (of-corner (e .corner)) fs
+
+listed-in : (es fs : List Entry) → every-one (lists fs) es ≡ true → (e : Entry) → In e es → Some fs (λ f. f .corner ≡ e .corner)
 listed-in es fs t e i =
-    let a = some-in (λ (f : Entry). eqb (f .corner) (e .corner)) fs (every-in (λ (e : Entry). some-one (λ (f : Entry). eqb (f .corner) (e .corner)) fs) t i) in
+    let a = some-in (of-corner (e .corner)) fs (every-in (lists fs) t i) in
     record { entry = a .one; among = a .among; is = eqb-true _ _ (a .is) }
 
--- corner 0 is in the one alone
-not-same : SameCorners (square 0 1 2 3) (square 1 2 5 4) → ⊥
-not-same c =
-    let a = c .there (entry 0 0 0) (first refl) in
-    never (sym (in-some (λ (f : Entry). eqb (f .corner) 0) (a .among) (eq-eqb _ 0 (a .is))))
+-- what is listed is found
+found : {c : ℕ} {fs : List Entry} → Some fs (λ f. f .corner ≡ c) → some-one (of-corner c) fs ≡ true
+found {c} a = in-some (of-corner c) (a .among) (eq-eqb _ c (a .is))
 
--- corner 4 is in the other alone
+-- corner 0 is in the one alone, and corner 4 in the other
+not-same : SameCorners (square 0 1 2 3) (square 1 2 5 4) → ⊥
+not-same c = never (sym (found (c .there (entry 0 0 0) (first refl))))
+
 not-more : SameCorners (square 0 1 2 3) lying → ⊥
-not-more c =
-    let a = c .back (entry 2 0 4) (later (later (later (later (first refl))))) in
-    never (sym (in-some (λ (f : Entry). eqb (f .corner) 4) (a .among) (eq-eqb _ 4 (a .is))))
+not-more c = never (sym (found (c .back (entry 2 0 4) (later (later (later (later (first refl))))))))
 
 -- ---- turns
 
-fits-turn : (t : ℕ) (d : Pair) (es fs : List Entry) → every-one (λ (e : Entry). every-one (λ (f : Entry). not (eqb (f .corner) (e .corner)) || same-pair (entryPair f) (moved t d (entryPair e))) fs) es ≡ true
-    → (e f : Entry) → In e es → In f fs → f .corner ≡ e .corner → entryPair f ≡ moved t d (entryPair e)
-fits-turn t d es fs h e f i j c =
-    let a = every-in (λ (e : Entry). every-one (λ (f : Entry). not (eqb (f .corner) (e .corner)) || same-pair (entryPair f) (moved t d (entryPair e))) fs) h i in
-    let b = every-in (λ (f : Entry). not (eqb (f .corner) (e .corner)) || same-pair (entryPair f) (moved t d (entryPair e))) a j in
-    same-pair-is _ _ (implied _ _ b (eq-eqb _ _ c))
+-- entries of one corner have pairs that t turns and a shift by d take to each other
+abbrev moves : ℕ → Pair → Entry → Entry → Bool
+moves t d e f = not (of-corner (e .corner) f) || same-pair (entryPair f) (moved t d (entryPair e))
+
+fits-turn : (t : ℕ) (d : Pair) (es fs : List Entry) → every-one (λ (e : Entry). every-one (moves t d e) fs) es ≡ true → (x : Entry × Entry) → OfOneCorner es fs x → entryPair (x .1) ≡ moved t d (entryPair (x .0))
+fits-turn t d es fs h x i =
+    let a = every-in (moves t d (x .0)) (every-in (λ (e : Entry). every-one (moves t d e) fs) h (i .0)) (i .1) in
+    same-pair-is _ _ (implied _ _ a (eq-eqb _ _ (i .2)))
 
 -- from one corner to another the turns alone are seen
-step-turned : {es fs : List Entry} (w : TurnedListing es fs) (e f e′ f′ : Entry) → In e es → In f fs → f .corner ≡ e .corner → In e′ es → In f′ fs → f′ .corner ≡ e′ .corner → entryPair f′ ⊖ entryPair f ≡ turns (w .t) (entryPair e′ ⊖ entryPair e)
-step-turned w e f e′ f′ i j c i′ j′ c′ = ap₂ (λ (x y : Pair). x ⊖ y) (w .is (e′, f′) (i′, j′, c′)) (w .is (e, f) (i, j, c)) ∙ moved-less (w .t) (w .d) (entryPair e) (entryPair e′)
+step-turned : {es fs : List Entry} (w : TurnedListing es fs) (x y : Entry × Entry) → OfOneCorner es fs x → OfOneCorner es fs y → entryPair (y .1) ⊖ entryPair (x .1) ≡ turns (w .t) (entryPair (y .0) ⊖ entryPair (x .0))
+step-turned w x y i j = ap₂ (λ (p q : Pair). p ⊖ q) (w .is y j) (w .is x i) ∙ moved-less (w .t) (w .d) (entryPair (x .0)) (entryPair (y .0))
 
 -- east turned is north by one turn alone
 one-turn : (t : ℕ) → t < 4 → (pos 0, pos 1) ≡ turns t (pos 1, pos 0) → t ≡ 1
 one-turn = four (λ t. (pos 0, pos 1) ≡ turns t (pos 1, pos 0) → t ≡ 1) (λ e. never (ap (same-pair (pos 0, pos 1)) e)) (λ e. refl) (λ e. never (ap (same-pair (pos 0, pos 1)) e)) (λ e. never (ap (same-pair (pos 0, pos 1)) e))
 
 turned-once : (w : TurnedListing lying standing) → w .t ≡ 1
-turned-once w = one-turn (w .t) (w .small) (step-turned w (entry 0 0 0) (entry 1 0 0) (entry 1 0 1) (entry 1 1 1) (first refl) (later (later (later (first refl)))) refl (later (later (first refl))) (later (later (later (later (first refl))))) refl)
+turned-once w =
+    one-turn (w .t) (w .small)
+    (step-turned w (entry 0 0 0, entry 1 0 0) (entry 1 0 1, entry 1 1 1) (first refl, later (later (later (first refl))), refl) (later (later (first refl)), later (later (later (later (first refl)))), refl))
 
 not-mirrored : TurnedListing (square 0 1 2 3) (square 0 3 2 1) → ⊥
 not-mirrored w =
-    let t = one-turn (w .t) (w .small) (step-turned w (entry 0 0 0) (entry 0 0 0) (entry 1 0 1) (entry 0 1 1) (first refl) (first refl) refl (later (later (first refl))) (later (first refl)) refl) in
-    let e = step-turned w (entry 0 0 0) (entry 0 0 0) (entry 0 1 3) (entry 1 0 3) (first refl) (first refl) refl (later (first refl)) (later (later (first refl))) refl in
+    let t = one-turn (w .t) (w .small) (step-turned w (entry 0 0 0, entry 0 0 0) (entry 1 0 1, entry 0 1 1) (first refl, first refl, refl) (later (later (first refl)), later (first refl), refl)) in
+    let e = step-turned w (entry 0 0 0, entry 0 0 0) (entry 0 1 3, entry 1 0 3) (first refl, first refl, refl) (later (first refl), later (later (first refl)), refl) in
     never (ap (same-pair (pos 1, pos 0)) (e ∙ ap (λ (t : ℕ). turns t (pos 0, pos 1)) t))
 
 -- ---- the list
@@ -150,7 +163,7 @@ orders =
       opposite-first = example-says _ refl;
       opposite-second = example-says _ refl;
       six-corners = record { there = listed-in lying standing refl; back = listed-in standing lying refl };
-      turned = record { t = 1; small = lit< tt; d = (pos 1, pos 0); is = λ x i. fits-turn 1 (pos 1, pos 0) lying standing refl (x .0) (x .1) (i .0) (i .1) (i .2) };
+      turned = record { t = 1; small = lit< tt; d = (pos 1, pos 0); is = fits-turn 1 (pos 1, pos 0) lying standing refl };
       once = turned-once;
       alike-reordered = reordered-by 2 (λ q. 1 - q) (λ q. 1 - q) alike alike-back refl refl refl refl refl;
       alike-not-joined = λ j. not-reached (j .joined 0 1 (lit< tt) (lit< tt) refl refl);

@@ -101,14 +101,17 @@ module _ (k : Kind) {cells others : List ℕ} (o : Reordered (k .size) cells oth
   there-again : (q : ℕ) → q < h .n → o .to (o .from q) ≡ q
   there-again q l = o .to-from q (has-there q (omega (arith, as-many)))
 
-  -- two cells are in one group here exactly when they are there
-  pub group-there : (p q : ℕ) → p < g .n → q < g .n → g .number p ≡ g .number q → h .number (o .to p) ≡ h .number (o .to q)
+  group-there : (p q : ℕ) → p < g .n → q < g .n → g .number p ≡ g .number q → h .number (o .to p) ≡ h .number (o .to q)
   group-there p q lp lq e = linked-equal H (linked-there o (equal-linked G lp lq e))
 
-  pub group-back : (p q : ℕ) → p < g .n → q < g .n → h .number (o .to p) ≡ h .number (o .to q) → g .number p ≡ g .number q
+  group-back : (p q : ℕ) → p < g .n → q < g .n → h .number (o .to p) ≡ h .number (o .to q) → g .number p ≡ g .number q
   group-back p q lp lq e =
       let l = linked-there (flip o) (equal-linked H (small-there p lp) (small-there q lq) e) in
       linked-equal G (rw (o .from-to p (has p lp), o .from-to q (has q lq)) at l)
+
+  -- two cells are in one group here exactly when they are there
+  pub one-group : (p q : ℕ) → p < g .n → q < g .n → (g .number p ≡ g .number q → h .number (o .to p) ≡ h .number (o .to q)) × (h .number (o .to p) ≡ h .number (o .to q) → g .number p ≡ g .number q)
+  one-group p q lp lq = (group-there p q lp lq, group-back p q lp lq)
 
   module _ (q : ℕ) (l : q < g .n) where
     -- of the group of q, the lowest cell in the one order and in the other

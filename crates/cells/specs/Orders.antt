@@ -37,7 +37,7 @@ hung = 0 ∷ 1 ∷ 2 ∷ 3 ∷ 1 ∷ 2 ∷ 5 ∷ 4 ∷ 5 ∷ 2 ∷ 6 ∷ 7 ∷ 4
 abbrev pub hung-last : List ℕ
 hung-last = 1 ∷ 2 ∷ 5 ∷ 4 ∷ 5 ∷ 2 ∷ 6 ∷ 7 ∷ 4 ∷ 5 ∷ 7 ∷ 8 ∷ 0 ∷ 1 ∷ 2 ∷ 3 ∷ []
 
--- one group, with one component or none
+-- one group, with one component
 abbrev pub with-one : List ℕ → List Entry → Example
 with-one cells es = one-group cells 1 1 (whole es ∷ [])
 

@@ -1,5 +1,6 @@
 // A text read whole from a descriptor, and a text written whole. What a descriptor gives or takes no contract can say; `outcome` fixes what is
 // made of each call's answer.
+ghost use mathlib.Core.Bool.{true};
 ghost use mathlib.Core.Path.{_≡_};
 ghost use lib.ListN.{length};
 ghost use Rattle.streams.specs.Moves.{isInterrupted, MovedWithin, ReadFront};
@@ -82,7 +83,10 @@ pub fn read_whole(fd: i32, list: &mut [u8]) -> Text
 }
 
 // Writes all of the text, or answers false, when some of it may have been written. A write that takes a part is followed by one of the rest.
-pub fn write_whole(fd: i32, text: &[u8]) -> bool {
+// Where there is nothing to write the answer is true; else the descriptor's answers decide it.
+pub fn write_whole(fd: i32, text: &[u8]) -> bool
+    ensures { λ r. ⌜ (length (now (text .entry)) ≡ 0 → r ≡ true) ⌝ }
+{
     let mut at = 0;
     while at < text.len() {
         let came = write_some(fd, &text[at..]);

@@ -12,7 +12,7 @@ use Rattle.cells.specs.Reordered.{Reordered, Joined}
 use Rattle.cells.proofs.Unique.{reached-has}
 use Rattle.cells.proofs.Squares.{quad-laws}
 use Rattle.cells.proofs.Groups.{own-number}
-use Rattle.cells.proofs.Reorder.{flip, led-home, group-there, group-back, members-there, led}
+use Rattle.cells.proofs.Reorder.{flip, led-home, members-there, led}
 use Rattle.cells.proofs.Relisted.{fits-led, lone-led}
 use Rattle.fates.specs.declared.LabelParams.{LabelParams}
 use Rattle.walk.specs.Input.{Input, quadCount, grouping}
@@ -53,21 +53,14 @@ demanded-over o h led many least d =
     }
 
 module _ {i j : Input} {p r : Outcome} (one : DoneCall i p) (other : DoneCall j r) (o : Reordered 4 (i .quads) (j .quads)) where
-  as-many : quadCount j ≡ quadCount i
+  pub as-many : quadCount j ≡ quadCount i
   as-many = omega (arith, o .len)
 
-  has : (q : ℕ) → q < quadCount i → Has 4 (i .quads) q
+  pub has : (q : ℕ) → q < quadCount i → Has 4 (i .quads) q
   has q l = omega arith
 
-  below : (q : ℕ) → Has 4 (i .quads) q → q < quadCount i
+  pub below : (q : ℕ) → Has 4 (i .quads) q → q < quadCount i
   below q h = omega arith
-
-  pub same-group : (a b : ℕ) → a < quadCount i → b < quadCount i
-      → (one .number a ≡ one .number b → other .number (o .to a) ≡ other .number (o .to b)) × (other .number (o .to a) ≡ other .number (o .to b) → one .number a ≡ one .number b)
-  same-group a b la lb = (
-    group-there quads o (groupingOf one) (groupingOf other) as-many has below (one .groups) (other .groups) a b la lb,
-    group-back quads o (groupingOf one) (groupingOf other) as-many has below (one .groups) (other .groups) a b la lb,
-  )
 
   module _ (q : ℕ) (small : q < quadCount i) where
     members-same : members quads (i .quads) (groupingOf one) (one .number q) ≡ members quads (j .quads) (groupingOf other) (other .number (o .to q))

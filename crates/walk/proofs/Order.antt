@@ -13,6 +13,7 @@ use native.Mathlib.Omega.{arith}
 use Rattle.cells.specs.Quads.{quads}
 use Rattle.cells.specs.Reordered.{Reordered, Joined, SameCorners}
 use Rattle.cells.specs.Turned.{TurnedListing}
+use Rattle.cells.proofs.Reorder.{one-group}
 use Rattle.cells.proofs.Relisted.{same-corners, turned-listing}
 pub use Rattle.cells.proofs.Orders.{orders}
 use Rattle.walk.specs.declared.Labelled.the-variants.{Done}
@@ -20,7 +21,7 @@ use Rattle.walk.specs.Input.{Input, quadCount}
 use Rattle.walk.specs.Call.{Outcome, Allowed}
 use Rattle.walk.specs.DoneCall.{DoneCall, groupingOf, HasComponent, listing}
 use Rattle.walk.proofs.Demand.{answered, amounts}
-use Rattle.walk.proofs.Carried.{has-exactly, component-of, lowest-has, same-group, to-the-lowest, demanded-same}
+use Rattle.walk.proofs.Carried.{has-exactly, component-of, lowest-has, as-many, has, below, to-the-lowest, demanded-same}
 
 -- every call that answered k components and l entries is such a call
 pub done-call : (i : Input) (work components entries : List ℕ) (o : Outcome) → Allowed i work components entries o → (k l : ℕ) → o .answer ≡ Done k l → DoneCall i o
@@ -34,7 +35,7 @@ module _ {i j : Input} {p r : Outcome} (one : DoneCall i p) (other : DoneCall j 
   -- two quads are in one group at the one exactly when they are at the other
   pub groups-same : (a b : ℕ) → a < quadCount i → b < quadCount i
       → (one .number a ≡ one .number b → other .number (o .to a) ≡ other .number (o .to b)) × (other .number (o .to a) ≡ other .number (o .to b) → one .number a ≡ one .number b)
-  groups-same = same-group one other o
+  groups-same = one-group quads o (groupingOf one) (groupingOf other) (as-many one other o) (has one other o) (below one other o) (one .groups) (other .groups)
 
   -- any two quads of the group of q are joined through sides run in opposite senses; this is asked at the one alone
   module _ (q : ℕ) (small : q < quadCount i) (joined : Joined quads (i .quads) (groupingOf one) (one .number q)) where
