@@ -1,5 +1,7 @@
 // The rows of the refusal table as one enum, with the number and the place that the table gives each, and what stands beside the place.
 // A call that refuses answers one of these; callers print, count and compare these numbers.
+#![tactic(auto)]
+
 ghost use Rattle.std.specs.Prelude.{◌≡◌};
 ghost use Rattle.refusal.specs.Table.{number_of, place_of, beside_of, has_beside};
 
