@@ -1,6 +1,8 @@
 // Classes of half-edges: Grid where both ends have an axis near enough, Diagonal across two such sides, else Spurious; and how well the
 // Grid ones fit.
 // `classify_all_edges` is the call; `inner` has the stage without its checks and the judgement of one triangle.
+#![tactic(auto)]
+
 ghost use Rattle.std.specs.Prelude.{◌≡◌};
 ghost use Rattle.classify.specs.Classes.{given};
 ghost use Rattle.classify.specs.Call.{Outcome, call_of};
@@ -44,14 +46,14 @@ pub struct Sides {
 }
 
 // A half-edge for itself: Grid with the slots at its start and its end, and the greater of its distances there.
-#[derive(Drop)]
+#[derive(Clone, Copy)]
 pub enum Judged {
     Spurious,
     Grid(u32, u32, f32),
 }
 
 // A triangle's three half-edges, each for itself, in order.
-#[derive(Drop)]
+#[derive(Clone, Copy)]
 pub struct Judgement {
     pub first: Judged,
     pub second: Judged,
@@ -74,7 +76,7 @@ pub struct Fits {
     pub third: f32,
 }
 
-#[derive(Drop)]
+#[derive(Clone, Copy)]
 pub struct EdgeParams {
     pub tolerance: f32,
     pub spread: SpreadRule,
