@@ -15,14 +15,14 @@ pub enum Spread {
 }
 
 // What makes a spread informative: by which rule, 1 or 2, and below which limit.
-#[derive(Drop)]
+#[derive(Clone, Copy)]
 pub struct SpreadRule {
     pub number: u32,
     pub limit: f32,
 }
 
 // Two angles and two informative marks, slot 0 first.
-#[derive(Drop)]
+#[derive(Clone, Copy)]
 pub struct AxisCache {
     pub angle0: f32,
     pub angle1: f32,

@@ -44,14 +44,14 @@ pub struct Sides {
 }
 
 // A half-edge for itself: Grid with the slots at its start and its end, and the greater of its distances there.
-#[derive(Drop)]
+#[derive(Clone, Copy)]
 pub enum Judged {
     Spurious,
     Grid(u32, u32, f32),
 }
 
 // A triangle's three half-edges, each for itself, in order.
-#[derive(Drop)]
+#[derive(Clone, Copy)]
 pub struct Judgement {
     pub first: Judged,
     pub second: Judged,
@@ -74,7 +74,7 @@ pub struct Fits {
     pub third: f32,
 }
 
-#[derive(Drop)]
+#[derive(Clone, Copy)]
 pub struct EdgeParams {
     pub tolerance: f32,
     pub spread: SpreadRule,

@@ -15,7 +15,7 @@ pub enum Taken {
 }
 
 // What ends a form: a blank or a line feed. Neither is a digit, so a form's end is seen.
-#[derive(Drop)]
+#[derive(Clone, Copy)]
 pub enum End {
     Blank,
     Feed,

@@ -7,7 +7,7 @@ mod lone;
 mod prepare;
 
 // The least quads of a group and the least listed corners of a component.
-#[derive(Drop)]
+#[derive(Clone, Copy)]
 pub struct LabelParams {
     pub quads: u32,
     pub corners: u32,
@@ -15,7 +15,7 @@ pub struct LabelParams {
 
 // What becomes of a quad's group, told at its lowest quad: the first that applies, in this order. With a labelling, also how many pairs are
 // claimed by several corners.
-#[derive(Drop)]
+#[derive(Clone, Copy)]
 pub enum Fate {
     NotLowest,
     TooFewQuads,
@@ -25,14 +25,14 @@ pub enum Fate {
 }
 
 // Records of corners in the workspace: where the first of them stands, and how many they are.
-#[derive(Drop)]
+#[derive(Clone, Copy)]
 pub struct Run {
     pub at: usize,
     pub count: usize,
 }
 
 // The records of one group: of its lone corners, and of all that its walk reached.
-#[derive(Drop)]
+#[derive(Clone, Copy)]
 pub struct Runs {
     pub lone: Run,
     pub all: Run,

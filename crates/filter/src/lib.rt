@@ -15,7 +15,7 @@ mod size;
 mod topology;
 
 // The limits: of the ratio of opposing sides, and of a side's length over its group's median.
-#[derive(Drop)]
+#[derive(Clone, Copy)]
 pub struct FilterParams {
     pub ratio: f32,
     pub least: f32,

@@ -17,7 +17,7 @@ pub mod inner;
 mod stages;
 
 // All parameters: of the edges' classes, of the filters and of labelling.
-#[derive(Drop)]
+#[derive(Clone, Copy)]
 pub struct Params {
     pub edges: EdgeParams,
     pub filters: FilterParams,

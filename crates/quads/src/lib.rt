@@ -13,7 +13,7 @@ mod order;
 mod pair;
 
 // Four corners.
-#[derive(Drop)]
+#[derive(Clone, Copy)]
 pub struct Quad {
     pub a: u32,
     pub b: u32,
@@ -22,7 +22,7 @@ pub struct Quad {
 }
 
 // The places of four corners in order of their angles.
-#[derive(Drop)]
+#[derive(Clone, Copy)]
 pub struct Ranks {
     pub a: usize,
     pub b: usize,

@@ -8,7 +8,7 @@ ghost use Rattle.refusal.specs.Table.{number_of, place_of, beside_of, has_beside
 pub mod inner;
 
 // What was wrong with the input. A number beside it is what the table calls the place; a twin fault also has the twin's value.
-#[derive(Drop)]
+#[derive(Clone, Copy)]
 pub enum Refusal {
     Unpaired,
     OverLimit,

@@ -20,7 +20,7 @@ use laying::inner::layout::{KEYS, SEEDS};
 use words::inner::{fill_zero, greater, lesser, wide};
 
 // The least words of a run.
-#[derive(Drop)]
+#[derive(Clone, Copy)]
 struct Least {
     pub x: u32,
     pub y: u32,

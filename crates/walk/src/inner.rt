@@ -13,7 +13,7 @@ use refusal::Refusal;
 use words::inner::fill_zero;
 
 // How many components, and how many entries in them.
-#[derive(Drop)]
+#[derive(Clone, Copy)]
 pub struct Totals {
     pub components: usize,
     pub entries: usize,

@@ -8,7 +8,7 @@ use digits::{End, Taken};
 use mesh::inner::twins::NO_TWIN;
 
 // The sorts of line: the P line without the rule's number and with it, a C line, a T line.
-#[derive(Drop)]
+#[derive(Clone, Copy)]
 pub(crate) enum Sort {
     Params,
     Ruled,

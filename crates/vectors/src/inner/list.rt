@@ -9,7 +9,7 @@ use crate::word_at;
 use measure::inner::float_of;
 
 // A list's head: its elements are the words from start on, and then the fill.
-#[derive(Drop)]
+#[derive(Clone, Copy)]
 struct Head {
     length: usize,
     given: usize,
