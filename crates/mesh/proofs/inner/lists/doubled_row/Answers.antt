@@ -7,9 +7,7 @@ use borrow.Author.Tests.{eq-eqb, ne_eqb, eqb-true, eqb-false}
 use lib.Dec.{eqb}
 use Rattle.refusal.specs.declared.Refusal.TheVariants.{Unpaired}
 use Rattle.refusal.specs.Rows.{refuse_if}
-use borrow.Author.Rules.{rules}
-use Rattle.mesh.proofs.inner.lists.doubled_row.Statement.{statement}
-use Rattle.mesh.proofs.inner.lists.doubled_row.Tie as tie
+use Rattle.mesh.proofs.inner.lists.doubled_row.Goals as goal
 
 halves : (a b : ℕ) → a % 2 ≡ 0 → eqb (a / 2) b ≡ eqb a (2 * b)
 halves a b h = go (eqb (a / 2) b) refl
@@ -21,14 +19,8 @@ halves a b h = go (eqb (a / 2) b) refl
 odd : (a b : ℕ) → (a % 2 ≡ 0 → ⊥) → a ≡ 2 * b → ⊥
 odd a b h q = h (omega arith)
 
-paired-row-requires : tie.Need-paired-row-requires
-paired-row-requires c κs = search rules
+pub returns-then-a-eq0 : goal.returns-then-a-eq0
+returns-then-a-eq0 c = c.paired_row.ensures ∙ ap (λ (t : Bool). refuse_if (not t) Unpaired) (halves _ _ c.if-a-eq0.true)
 
-returns : tie.Need-returns
-returns c = c.paired-row.ensures ∙ ap (λ (t : Bool). refuse_if (not t) Unpaired) (halves _ _ c.before.if1.true)
-
-returns-2 : tie.Need-returns-2
-returns-2 c = rw (ne_eqb c.before.args.a (2 * c.before.args.b) (odd c.before.args.a c.before.args.b c.if1.false))
-
-pub doubled-row-spec : {M : Type 1} → statement M
-doubled-row-spec = tie.close (tie.spec paired-row-requires returns returns-2)
+pub returns : goal.returns
+returns c = rw (ne_eqb c.args.a (2 * c.args.b) (odd c.args.a c.args.b c.if-a-eq0.false))
