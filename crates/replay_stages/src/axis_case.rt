@@ -1,9 +1,11 @@
 // Kinds 1 and 7: the axis cache of one corner, by rule 1 or by the rule given.
-ghost use Rattle.std.specs.Prelude.{◌≤◌, length};
+ghost use Rattle.std.specs.Prelude.{◌≤◌, length, IfOk};
 ghost use Rattle.vectors.specs.inner.Lists.{Onward};
 
 use axis::{AxisCache, Cached, Spread, SpreadRule};
 use measure::inner::{float_of, word_of};
+use std::io;
+use std::io::{Stdout, Write};
 use vectors::inner::list::after;
 use vectors::inner::runs::write_refusal;
 use vectors::{hex, word_at};
@@ -18,30 +20,30 @@ fn spread_at(text: &[u8], at: usize) -> Spread
     Spread::Known(float_of(word_at(text, after(text, at, 1))))
 }
 
-fn write_mark(mark: bool) {
+fn write_mark(out: &mut Stdout, mark: bool) -> io::Result<()> {
     if mark {
-        io::write_all(1, b" 1");
+        out.write_all(b" 1")
     } else {
-        io::write_all(1, b" 0");
+        out.write_all(b" 0")
     }
 }
 
-fn write_cache(cache: AxisCache) {
-    io::write_all(1, b"cache ");
+fn write_cache(out: &mut Stdout, cache: AxisCache) -> io::Result<()> {
+    out.write_all(b"cache ")?;
     let angle0 = hex(word_of(cache.angle0));
     let angle1 = hex(word_of(cache.angle1));
-    io::write_all(1, &angle0);
-    io::write_all(1, b" ");
-    io::write_all(1, &angle1);
-    write_mark(cache.informative0);
-    write_mark(cache.informative1);
-    io::write_all(1, b"\n");
+    out.write_all(&angle0)?;
+    out.write_all(b" ")?;
+    out.write_all(&angle1)?;
+    write_mark(out, cache.informative0)?;
+    write_mark(out, cache.informative1)?;
+    out.write_all(b"\n")
 }
 
 // Angle, mark and spread of slot 0, the same of slot 1, and the limit.
-pub(crate) fn replay(text: &[u8], at: usize, rule: u32) -> usize
+pub(crate) fn replay(out: &mut Stdout, text: &[u8], at: usize, rule: u32) -> io::Result<usize>
     requires { at ≤ length text.now }
-    ensures { Onward text.now at result }
+    ensures { IfOk result (Onward text.now at) }
 {
     let second = after(text, at, 3);
     let limit = after(text, at, 6);
@@ -56,10 +58,10 @@ pub(crate) fn replay(text: &[u8], at: usize, rule: u32) -> usize
         },
     );
     match answer {
-        Cached::Known(cache) => write_cache(cache),
+        Cached::Known(cache) => write_cache(out, cache)?,
         Cached::Refused(why) => {
-            write_refusal(why);
+            write_refusal(out, why)?;
         }
     }
-    after(text, at, 7)
+    Ok(after(text, at, 7))
 }

@@ -1,21 +1,22 @@
 // Kinds 2 and 8: the classes of a frame's half-edges, by rule 1 or by the rule given. Kind 10: their classes and fits, by the rule given.
-ghost use Rattle.std.specs.Prelude.{◌≤◌, length};
+ghost use Rattle.std.specs.Prelude.{◌≤◌, length, IfOk};
 ghost use Rattle.vectors.specs.inner.Lists.{Front, Onward};
 
 use axis::SpreadRule;
 use classify::{Classified, EdgeParams};
 use measure::inner::{float_of, word_of};
+use std::io;
+use std::io::{Stdout, Write};
 use vectors::inner::list::{after, fill, fill_floats, least};
 use vectors::inner::runs::{write_refusal, write_runs};
 use vectors::word_at;
 
-fn write_answer(answer: Classified) {
+fn write_answer(out: &mut Stdout, answer: Classified) -> io::Result<()> {
     match answer {
-        Classified::Done => {
-            io::write_all(1, b"done\n");
-        }
+        Classified::Done => out.write_all(b"done\n"),
         Classified::Refused(why) => {
-            write_refusal(why);
+            write_refusal(out, why)?;
+            Ok(())
         }
     }
 }
@@ -33,14 +34,16 @@ fn lay_words(list: &[f32], words: &mut [u32]) -> usize
     count
 }
 
-fn write_fits(fits: &[f32]) {
+fn write_fits(out: &mut Stdout, fits: &[f32]) -> io::Result<()> {
     let mut words = [0u32; 24580];
     let count = lay_words(fits, &mut words);
-    write_runs(&words[..count]);
+    write_runs(out, &words[..count])?;
+    Ok(())
 }
 
 // The fits are written where the case tells them.
 fn classify_lists(
+    out: &mut Stdout,
     x: &[f32],
     y: &[f32],
     angles: &[f32],
@@ -51,15 +54,16 @@ fn classify_lists(
     classes: &mut [u32],
     fits: &mut [f32],
     fitted: bool,
-) {
+) -> io::Result<()> {
     let answer = classify::classify_all_edges(
         x, y, angles, marks, spreads, triangles, params, classes, fits,
     );
-    write_answer(answer);
-    write_runs(classes);
+    write_answer(out, answer)?;
+    write_runs(out, classes)?;
     if fitted {
-        write_fits(fits);
+        write_fits(out, fits)?;
     }
+    Ok(())
 }
 
 // The tolerance and the spread limit.
@@ -78,6 +82,7 @@ fn params_at(text: &[u8], at: usize, rule: u32) -> EdgeParams
 
 // The call, with the list of fits that stands at a place.
 fn lend_fits(
+    out: &mut Stdout,
     text: &[u8],
     at: usize,
     x: &[f32],
@@ -89,14 +94,15 @@ fn lend_fits(
     params: EdgeParams,
     classes: &mut [u32],
     fitted: bool,
-) -> usize
+) -> io::Result<usize>
     requires { at ≤ length text.now }
-    ensures { Onward text.now at result }
+    ensures { IfOk result (Onward text.now at) }
 {
     let mut fits = [0.0f32; 24580];
     let in_fits = fill_floats(text, at, &mut fits);
     let n_fits = in_fits.length;
     classify_lists(
+        out,
         x,
         y,
         angles,
@@ -107,8 +113,8 @@ fn lend_fits(
         classes,
         &mut fits[..n_fits],
         fitted,
-    );
-    in_fits.next
+    )?;
+    Ok(in_fits.next)
 }
 
 // Of two places the first, for a case that tells fits, or the second.
@@ -122,6 +128,7 @@ fn place(text: &[u8], at: usize, fitted: bool, first: usize, second: usize) -> u
 // The lists of half-edges, which end the case. Where it tells no fits, the list lent for them is the triangles', read as floats, for its
 // length.
 fn half_edges(
+    out: &mut Stdout,
     text: &[u8],
     at: usize,
     x: &[f32],
@@ -131,9 +138,9 @@ fn half_edges(
     spreads: &[f32],
     params: EdgeParams,
     fitted: bool,
-) -> usize
+) -> io::Result<usize>
     requires { at ≤ length text.now }
-    ensures { Onward text.now at result }
+    ensures { IfOk result (Onward text.now at) }
 {
     let mut triangles = [0u32; 24580];
     let mut classes = [0u32; 24580];
@@ -143,6 +150,7 @@ fn half_edges(
     let n_classes = in_classes.length;
     let end = in_classes.next;
     let next = lend_fits(
+        out,
         text,
         place(text, at, fitted, end, at),
         x,
@@ -154,14 +162,22 @@ fn half_edges(
         params,
         &mut classes[..n_classes],
         fitted,
-    );
-    place(text, at, fitted, next, end)
+    )?;
+    Ok(place(text, at, fitted, next, end))
 }
 
 // The lists of axes, two to a corner.
-fn axes(text: &[u8], at: usize, x: &[f32], y: &[f32], params: EdgeParams, fitted: bool) -> usize
+fn axes(
+    out: &mut Stdout,
+    text: &[u8],
+    at: usize,
+    x: &[f32],
+    y: &[f32],
+    params: EdgeParams,
+    fitted: bool,
+) -> io::Result<usize>
     requires { at ≤ length text.now }
-    ensures { Onward text.now at result }
+    ensures { IfOk result (Onward text.now at) }
 {
     let mut angles = [0.0f32; 8194];
     let mut marks = [0u32; 8194];
@@ -173,6 +189,7 @@ fn axes(text: &[u8], at: usize, x: &[f32], y: &[f32], params: EdgeParams, fitted
     let n_marks = in_marks.length;
     let n_spreads = in_spreads.length;
     half_edges(
+        out,
         text,
         in_spreads.next,
         x,
@@ -185,9 +202,15 @@ fn axes(text: &[u8], at: usize, x: &[f32], y: &[f32], params: EdgeParams, fitted
     )
 }
 
-pub(crate) fn replay(text: &[u8], at: usize, rule: u32, fitted: bool) -> usize
+pub(crate) fn replay(
+    out: &mut Stdout,
+    text: &[u8],
+    at: usize,
+    rule: u32,
+    fitted: bool,
+) -> io::Result<usize>
     requires { at ≤ length text.now }
-    ensures { Onward text.now at result }
+    ensures { IfOk result (Onward text.now at) }
 {
     let params = params_at(text, at, rule);
     let mut x = [0.0f32; 4097];
@@ -196,5 +219,5 @@ pub(crate) fn replay(text: &[u8], at: usize, rule: u32, fitted: bool) -> usize
     let in_y = fill_floats(text, in_x.next, &mut y);
     let n_x = in_x.length;
     let n_y = in_y.length;
-    axes(text, in_y.next, &x[..n_x], &y[..n_y], params, fitted)
+    axes(out, text, in_y.next, &x[..n_x], &y[..n_y], params, fitted)
 }
