@@ -1,4 +1,6 @@
 // The axis cache of a corner: its two axis angles and whether each is informative, by the spread rule.
+#![tactic(auto)]
+
 ghost use Rattle.std.specs.Prelude.{◌≡◌};
 ghost use Rattle.axis.specs.Cache.{cache_call};
 

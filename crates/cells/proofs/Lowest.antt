@@ -54,8 +54,8 @@ module _ (f : Pair → ℤ) where
       l = lower_is (f r.pair) (lowest f (x ∷ rs))
 
       go : In t (r ∷ x ∷ rs) → (In t (x ∷ rs) → Over (lowest f (x ∷ rs)) (f t.pair)) → Over (lower (f r.pair) (lowest f (x ∷ rs))) (f t.pair)
-      go (first e) h = subst (λ (y : Reading). Over (lower (f r.pair) (lowest f (x ∷ rs))) (f y.pair)) (sym e) l.under-a
-      go (later j) h = over_over l.under-b (h j)
+      go (first e) h = subst (λ (y : Reading). Over (lower (f r.pair) (lowest f (x ∷ rs))) (f y.pair)) (sym e) l.under_a
+      go (later j) h = over_over l.under_b (h j)
 
   -- each stands over the lowest by their difference
   pub stands : (rs : List Reading) (t : Reading) → In t rs → f t.pair ≡ lowest f rs +ℤ pos (nat_abs (f t.pair -ℤ lowest f rs))

@@ -91,9 +91,9 @@ module _ (span : ℕ) (cells : List ℕ) (n : ℕ) (params : LabelParams) (numbe
           }
 
       becomes_by : {fate : Fate} → Falls params (fate_of span n xs q) (walked_of span n xs q) (runs_at span n ys q).lone.count R.verdict.claims fate → Becomes cells g q fate
-      becomes_by (not_lowest z) = Becomes.not-lowest (λ e. some_members G q h e (sym (A.sizes q h) ∙ z))
-      becomes_by (few_quads z l) = Becomes.few-quads (lowest z) (omega (arith, A.sizes q h))
-      becomes_by (no_labelling z b r) = Becomes.no-labelling (lowest z) (omega (arith, A.sizes q h)) (none_by (A.walks q h) (lowest z) r)
+      becomes_by (not_lowest z) = Becomes.not_lowest (λ e. some_members G q h e (sym (A.sizes q h) ∙ z))
+      becomes_by (few_quads z l) = Becomes.few_quads (lowest z) (omega (arith, A.sizes q h))
+      becomes_by (no_labelling z b r) = Becomes.no_labelling (lowest z) (omega (arith, A.sizes q h)) (none_by (A.walks q h) (lowest z) r)
       becomes_by (few_lone z b r l) = Becomes.few_lone (labels z b r) l
       becomes_by (kept z b r l) = Becomes.kept (labels z b r) l
 

@@ -142,7 +142,7 @@ module _ (xs ys : List ℕ) (a b m k r : ℕ) (O : Room xs a b m) (R : SeedOrder
             omega (arith, grouped_copied (old i (omega arith)), grouped_copied (old j v), P.rises i j l v)
 
 -- what `Picks` leaves, seen from the records at the start
-pub picked_more : {t : ℕ} (xs ys zs : List ℕ) (a b m k r : ℕ) → Room xs a b m → SeedOrder xs a m → k < m → Kept xs ys b (2 * m) → Picked xs ys a b m k r → Picks ys zs a b m k r t → Kept xs zs b (2 * m) × Picked xs zs a b m (k + 1) t
+pub picked_more : (xs ys zs : List ℕ) (a b m k r : ℕ) {t : ℕ} → Room xs a b m → SeedOrder xs a m → k < m → Kept xs ys b (2 * m) → Picked xs ys a b m k r → Picks ys zs a b m k r t → Kept xs zs b (2 * m) × Picked xs zs a b m (k + 1) t
 picked_more xs ys zs a b m k r O R h e P (left n q) = rw q (e, passed_over xs ys a b m k r O R h e P (λ o. n (single_now e O k h o)))
 picked_more xs ys zs a b m k r O R h e P (took o q) = rw q (zs_kept xs ys a b m k r O R h e P, added xs ys a b m k r O R h e P (single_then e O k h o))
 

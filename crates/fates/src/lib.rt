@@ -1,5 +1,7 @@
 // What becomes of the groups of quads: too few quads, no labelling, too few lone corners, or kept; and the records of their corners.
 // `inner` has it for the calls that write it out.
+#![tactic(auto)]
+
 mod gather;
 pub mod inner;
 mod judge;

@@ -1,5 +1,7 @@
 // The walk from one quad: the labels of the quads that it reaches across sides run in opposite senses, or that there are none.
 // `inner` has it for the crates above, with what a caller needs to read the labels and to take them away again.
+#![tactic(auto)]
+
 pub mod inner;
 mod settle;
 mod steps;

@@ -1,5 +1,7 @@
 // The measures on single floats that the stages rest on: document 01's root, angle and distance as public calls.
 // Each call is fixed by one definition of specs/; what only the crates above use stands in `inner`.
+#![tactic(auto)]
+
 ghost use Rattle.std.specs.Prelude.{◌≡◌};
 ghost use Rattle.measure.specs.Angle.{angle_of};
 ghost use Rattle.measure.specs.Distance.{distance_of};

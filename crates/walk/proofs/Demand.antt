@@ -74,7 +74,7 @@ module _ (i : Input) (work components entries : List ℕ) (o : Outcome) (allowed
   module _ (number : ℕ → ℕ) (groups : GroupsOf i number) where
     -- k is the number of groups that have all that is demanded, and l the sum of their lone corners
     pub amounts : Wanted i number k l
-    amounts = let s = written in want.amounts-are s.count s.total (want.wanted groups s.answer)
+    amounts = let s = written in want.amounts_are s.count s.total (want.wanted groups s.answer)
 
     -- of the lowest quads of these groups in order, which `amounts` gives and which are the only ones (`one_seed`)
     module _ (seed : ℕ → ℕ) (seeds : Seeds i number k seed) where
@@ -153,4 +153,4 @@ module _ (i : Input) (work components entries : List ℕ) (o : Outcome) (allowed
         let through = open_by_10 i work components entries o allowed w e in
         let (k, (l, a)) = wanted through number groups in
         let t = told_by_10 (by_room through number groups k l a) w e in
-        (k, (want.amounts-are refl (sym t.0) a, t.1, omega (arith, t.0, t.2)))
+        (k, (want.amounts_are refl (sym t.0) a, t.1, omega (arith, t.0, t.2)))

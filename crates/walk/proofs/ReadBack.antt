@@ -87,8 +87,8 @@ module _ (components entries : List ℕ) (out : List (List Entry)) (past rest : 
   here : (j : ℕ) → j < length out → After j → ReadAt components entries j (sum j) (get_or out j [])
   here j l a =
       component_read components entries j (sum j) (get_or out j []) (drop (suc j) out) past rest
-      (a.in-components ∙ ap (λ (o : List (List Entry)). component_words (sum j) o ++ past) (at j l))
-      (a.in-entries ∙ ap (λ (o : List (List Entry)). entry_words (all_entries o) ++ rest) (at j l))
+      (a.in_components ∙ ap (λ (o : List (List Entry)). component_words (sum j) o ++ past) (at j l))
+      (a.in_entries ∙ ap (λ (o : List (List Entry)). entry_words (all_entries o) ++ rest) (at j l))
 
   after_more : (j : ℕ) → j < length out → After j → After (suc j)
   unfolding total component_words all_entries
@@ -96,8 +96,8 @@ module _ (components entries : List ℕ) (out : List (List Entry)) (past rest : 
       let es = get_or out j [] in
       let fs = drop (suc j) out in
       let n : count_of components j ≡ length es = (here j l a).count_is in
-      let p : drop (3 * j) components ≡ sum j ∷ length es ∷ holes es ∷ (component_words (sum j + length es) fs ++ past) = a.in-components ∙ ap (λ (o : List (List Entry)). component_words (sum j) o ++ past) (at j l) in
-      let q : drop (3 * sum j) entries ≡ entry_words (es ++ all_entries fs) ++ rest = a.in-entries ∙ ap (λ (o : List (List Entry)). entry_words (all_entries o) ++ rest) (at j l) in
+      let p : drop (3 * j) components ≡ sum j ∷ length es ∷ holes es ∷ (component_words (sum j + length es) fs ++ past) = a.in_components ∙ ap (λ (o : List (List Entry)). component_words (sum j) o ++ past) (at j l) in
+      let q : drop (3 * sum j) entries ≡ entry_words (es ++ all_entries fs) ++ rest = a.in_entries ∙ ap (λ (o : List (List Entry)). entry_words (all_entries o) ++ rest) (at j l) in
       let r : length (all_entries (drop j out)) ≡ length es + length (all_entries fs) = ap (λ (o : List (List Entry)). length (all_entries o)) (at j l) ∙ length-append es (all_entries fs) in
       record {
         in_components = same_place components (suc j) (j + 1) (omega arith) ∙ three_on components j (sum j) (length es) (holes es) (component_words (sum j + length es) fs ++ past) p ∙ ap (λ (m : ℕ). component_words (sum j + m) fs ++ past) (sym n);
@@ -128,7 +128,7 @@ module _ (components entries : List ℕ) (out : List (List Entry)) (past rest : 
   holes_of_lem j l = (here j l (after j (omega arith))).holes_are ∙ ap holes (sym (component_is j l))
 
   pub starts_at : (j : ℕ) → j < length out → before_of components j ≡ total (count_of components) j
-  starts_at j l = (here j l (after j (omega arith))).before-is
+  starts_at j l = (here j l (after j (omega arith))).before_is
 
   pub entries_in_all : length (all_entries out) ≡ total (count_of components) (length out)
   unfolding all_entries

@@ -139,9 +139,9 @@ module _ {span n : ℕ} {cells : List ℕ} {params : LabelParams} {xs w : List �
 
   step : (s : ℕ) (f : Fate) → s < n → fate_at span n w s ≡ f → Becomes cells g s f → To s → To (suc s)
   unfolding is_kept is_labelled
-  step s f h e (Becomes.not-lowest l) c = rw (passed w span n s (ap is_kept e)) (within c l)
-  step s f h e (Becomes.few-quads l b) c = rw (passed w span n s (ap is_kept e)) (dropped c l (few_cells b))
-  step s f h e (Becomes.no-labelling l b r) c = rw (passed w span n s (ap is_kept e)) (dropped c l (no_labelling b r))
+  step s f h e (Becomes.not_lowest l) c = rw (passed w span n s (ap is_kept e)) (within c l)
+  step s f h e (Becomes.few_quads l b) c = rw (passed w span n s (ap is_kept e)) (dropped c l (few_cells b))
+  step s f h e (Becomes.no_labelling l b r) c = rw (passed w span n s (ap is_kept e)) (dropped c l (no_labelling b r))
   step s f h e (Becomes.few_lone l b) c =
       let t = ap is_labelled e in
       rw (passed w span n s (ap is_kept e)) (dropped c l.lowest (few_corners l.enough (laid s h t).L (laid s h t).labelling (entries_of w (run s)) (own_listed s h t) (omega (arith, own_length s h t l))))

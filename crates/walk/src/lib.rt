@@ -1,5 +1,7 @@
 // The labelling of quads: each group that is kept becomes a component, which lists its lone corners. `label_components` is the call;
 // `inner` has what follows the labelling, for other calls that label.
+#![tactic(auto)]
+
 ghost use Rattle.walk.specs.Input.{given};
 ghost use Rattle.walk.specs.Call.{Allowed};
 

@@ -1,0 +1,15 @@
+-- `is_informative` is `informative_of`, arm by arm.
+use Rattle.axis.specs.Cache.{informative_of}
+use Rattle.axis.proofs.inner.is_informative.Goals as goal
+
+pub returns-in-Missing : goal.returns-in-Missing
+unfolding informative_of
+returns-in-Missing c = rw c.in-Missing.is
+
+pub returns-then-is_finite : goal.returns-then-is_finite
+unfolding informative_of
+returns-then-is_finite c = rw (c.in-Known.is, ← c.is_finite.ensures, c.if-is_finite.true)
+
+pub returns-else-is_finite : goal.returns-else-is_finite
+unfolding informative_of
+returns-else-is_finite c = rw (c.in-Known.is, ← c.is_finite.ensures, c.if-is_finite.false)

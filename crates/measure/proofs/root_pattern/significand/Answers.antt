@@ -1,0 +1,12 @@
+-- `significand` is `sig_of`, by the same test.
+use Rattle.measure.specs.Pattern.{sig_of}
+use borrow.Author.Tests.{lt-ltb, le-ltb}
+use Rattle.measure.proofs.root_pattern.significand.Goals as goal
+
+pub returns-then-b-lt8388608 : goal.returns-then-b-lt8388608
+unfolding sig_of
+returns-then-b-lt8388608 c = rw (lt-ltb _ _ c.if-b-lt8388608.true)
+
+pub returns-else-b-lt8388608 : goal.returns-else-b-lt8388608
+unfolding sig_of
+returns-else-b-lt8388608 c = rw (le-ltb _ _ c.if-b-lt8388608.false)

@@ -1,0 +1,5 @@
+-- `points_back` is `points_back`.
+use Rattle.mesh.proofs.inner.twins.points_back.Goals as goal
+
+pub returns : goal.returns
+returns c = rw (c.wide.ensures, c.wide-back.ensures)

@@ -1,0 +1,27 @@
+-- `gaps_of`: `holes` is the sum of the gaps after the first k records, each of at most 32,768 places.
+use mathlib.Core.Path.{◌≡◌, refl, sym, ap₂, ◌∙◌}
+use Prim.Native.Nat.{◌+◌, ◌-◌}
+use native.Mathlib.Numerals.{add-one}
+use native.Mathlib.Omega.{arith}
+use Rattle.cells.specs.Sums.{total}
+use Rattle.walk.proofs.RowWords.{holes_between}
+use Rattle.walk.proofs.emit.gaps_of.Goals as goal
+
+pub loop-k-init : goal.loop-k-init
+unfolding total
+loop-k-init c = (omega arith, refl, omega arith)
+
+pub gap_after-holes-requires : goal.gap_after-holes-requires
+gap_after-holes-requires c = record { ascending = c.requires.ascending; y_value = (c.requires.y_value.0, c.loop-k-test.true, c.requires.y_value.1); noted = c.requires.noted }
+
+pub loop-k-preserved : goal.loop-k-preserved
+unfolding total
+loop-k-preserved c =
+    let l = c.loop-k in
+    (omega arith, rw (add-one l.k) (ap₂ ◌+◌ l.invariant.1 c.gap_after-holes.ensures.0), omega (arith, c.gap_after-holes.ensures.1))
+
+pub returns : goal.returns
+returns c =
+    let l = c.loop-k in
+    let all : l.k ≡ c.args.run.count - 1 = omega arith in
+    rw all at l.invariant.1 ∙ sym (holes_between c.args.work.now c.args.run c.requires.ascending)
