@@ -1,6 +1,8 @@
 // Classes of half-edges: Grid where both ends have an axis near enough, Diagonal across two such sides, else Spurious; and how well the
 // Grid ones fit.
 // `classify_all_edges` is the call; `inner` has the stage without its checks and the judgement of one triangle.
+#![tactic(auto)]
+
 ghost use Rattle.std.specs.Prelude.{◌≡◌};
 ghost use Rattle.classify.specs.Classes.{given};
 ghost use Rattle.classify.specs.Call.{Outcome, call_of};

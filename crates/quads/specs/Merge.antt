@@ -1,6 +1,6 @@
 -- Document 01, "Quads": triangle t pairs with the twin's triangle when that is higher, its own only diagonal is the twin, and the union
 -- has four corners. Quads stand in order of t.
-use Rattle.std.specs.Prelude.{cond, List, [], ◌∷◌, ◌++◌, ℕ, zero, suc, ◌+◌, ◌/◌, eqb, ltb, Float, length, get_or}
+use Rattle.std.specs.Prelude.{cond, List, [], ◌∷◌, ◌++◌, ℕ, zero, suc, ◌/◌, eqb, ltb, Float, length, get_or}
 use Rattle.std.specs.Borrow.{Bor}
 use Rattle.mesh.specs.HalfEdge.{triangle_of, no_twin}
 use Rattle.quads.specs.declared.Found.{Found}

@@ -1,5 +1,7 @@
 // Quads from a mesh: two triangles that meet at the only diagonal of both, their four corners in order.
 // `merge_triangle_pairs` is the call; `inner` has the stage without its checks.
+#![tactic(auto)]
+
 ghost use Rattle.std.specs.Prelude.{◌≡◌};
 ghost use Rattle.quads.specs.Merge.{given};
 ghost use Rattle.quads.specs.Call.{Outcome, call_of};

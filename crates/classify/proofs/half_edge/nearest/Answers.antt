@@ -1,0 +1,14 @@
+-- `nearest` is `nearer`, by which distances there are.
+use Rattle.classify.specs.Match.{nearer}
+use Rattle.classify.proofs.half_edge.nearest.Goals as goal
+
+pub returns-in_default-slot1 : goal.returns-in_default-slot1
+unfolding nearer
+returns-in_default-slot1 c = rw (c.in_default.is, c.in_default-slot1.is)
+
+pub returns-in_default : goal.returns-in_default
+unfolding nearer
+returns-in_default c = rw (c.in_default.is, c.in-Known-slot1.is)
+
+pub returns : goal.returns
+returns c = rw (c.in-Known.is, c.against.ensures)

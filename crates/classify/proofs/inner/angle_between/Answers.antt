@@ -1,0 +1,7 @@
+-- `angle_between` is `angle_between`.
+use Rattle.classify.specs.Classes.{angle_between}
+use Rattle.classify.proofs.inner.angle_between.Goals as goal
+
+pub returns : goal.returns
+unfolding angle_between
+returns c = c.angle_rule.ensures
