@@ -9,6 +9,6 @@ pub fn put_decimal(out: &mut [u8], at: usize, n: u32) -> usize
 {
     let mut text = [0u8; 20];
     let count = io::decimal(n as u64, &mut text);
-    bytes::copy(&text[..count], &mut out[at..]);
+    out[at..at + count].copy_from_slice(&text[..count]);
     at + count
 }

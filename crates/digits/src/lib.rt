@@ -1,5 +1,7 @@
 // Words as text: hex digits and decimal digits. A reader takes a word from a text exactly where its printed form stands, with the byte that
 // ends it. `inner` writes a word.
+#![tactic(auto)]
+
 ghost use Rattle.std.specs.Prelude.{◌<◌, ◌≤◌, ◌^◌, ◌≡◌};
 ghost use Rattle.digits.specs.Digits.{hex_of, decimal_of};
 ghost use Rattle.digits.specs.inner.Run.{Run as Spelt, Value};
@@ -122,7 +124,8 @@ pub fn decimal_at(text: &[u8], at: usize, end: End) -> Taken
     if text[at + count] != byte(end) {
         return Taken::Nothing;
     }
-    if 1 < count {
+    let is_long = 1 < count;
+    if is_long {
         if text[at] == b'0' {
             return Taken::Nothing;
         }

@@ -1,5 +1,7 @@
 // What the programs that replay outside vectors share: words as eight upper-case hex digits, and how the line that tells a refusal begins.
 // `inner` reads their files and writes their lines.
+#![tactic(auto)]
+
 ghost use Rattle.std.specs.Prelude.{◌≡◌, ◌+◌, ◌<◌, ◌≤◌, length};
 ghost use Rattle.digits.specs.Digits.{digit_of, hex_of};
 ghost use Rattle.vectors.specs.Hex.{value_of, four_at, word_at, field_of, refusal_front};

@@ -1,33 +1,35 @@
 // Answers as lines: a refusal, numbers of records, and a list as runs: the length of each maximal run of equal words, and the word.
-// What goes to standard output no contract can say; each answers how much its line tells.
-ghost use Rattle.std.specs.Prelude.{◌≡◌, ◌<◌, ◌≤◌, length};
+// What goes to standard output no contract can say; each answers how much its line tells. Where the writer fails, some of the line may be
+// written.
+ghost use Rattle.std.specs.Prelude.{◌≡◌, ◌<◌, ◌≤◌, length, IfOk};
 ghost use Rattle.vectors.specs.Hex.{beside_field, refusal_line};
 ghost use Rattle.digits.specs.Digits.{decimal_of};
 ghost use Rattle.vectors.specs.inner.Lines.{count_line, counts_line, runs_of, Run};
 
 use refusal::Refusal;
+use std::io::{Result, Write};
 
 // The field's number of bytes: 0 where the row has nothing beside its place.
-fn write_beside(why: Refusal) -> usize
-    ensures { (result ≡ length (beside_field why)) × (result ≤ 9) }
+fn write_beside<W: Write>(out: &mut W, why: Refusal) -> Result<usize>
+    ensures { IfOk result (λ n. (n ≡ length (beside_field why)) × (n ≤ 9)) }
 {
     if refusal::has_beside(refusal::number(why)) {
         let field = crate::field(refusal::beside(why));
-        io::write_all(1, &field);
-        return field.len();
+        out.write_all(&field)?;
+        return Ok(field.len());
     }
-    0
+    Ok(0)
 }
 
 // The line's number of bytes.
-pub fn write_refusal(why: Refusal) -> usize
-    ensures { result ≡ length (refusal_line why) }
+pub fn write_refusal<W: Write>(out: &mut W, why: Refusal) -> Result<usize>
+    ensures { IfOk result (λ n. n ≡ length (refusal_line why)) }
 {
     let front = crate::refusal_front(why);
-    io::write_all(1, &front);
-    let beside = write_beside(why);
-    io::write_all(1, b"\n");
-    front.len() + beside + 1
+    out.write_all(&front)?;
+    let beside = write_beside(out, why)?;
+    out.write_all(b"\n")?;
+    Ok(front.len() + beside + 1)
 }
 
 // Where the run that begins at `from` ends.
@@ -46,59 +48,65 @@ fn run_end(list: &[u32], from: usize) -> usize
     i
 }
 
-fn write_run(count: usize, word: u32, first: bool) {
+fn write_number<W: Write>(out: &mut W, n: u64) -> Result<()> {
+    let mut text = [0u8; 20];
+    let places = io::decimal(n, &mut text);
+    out.write_all(&text[..places])
+}
+
+fn write_run<W: Write>(out: &mut W, count: usize, word: u32, first: bool) -> Result<()> {
     if !first {
-        io::write_all(1, b" ");
+        out.write_all(b" ")?;
     }
-    io::print_decimal(1, count as u64);
-    io::write_all(1, b"*");
-    io::print_decimal(1, word as u64);
+    write_number(out, count as u64)?;
+    out.write_all(b"*")?;
+    write_number(out, word as u64)
 }
 
 // How many runs the line tells.
-pub fn write_runs(list: &[u32]) -> usize
-    ensures { result ≡ runs_of list.now }
+pub fn write_runs<W: Write>(out: &mut W, list: &[u32]) -> Result<usize>
+    ensures { IfOk result (λ n. n ≡ runs_of list.now) }
 {
     let mut runs = 0;
     let mut at = 0;
     while at < list.len() {
         let end = run_end(list, at);
-        write_run(end - at, list[at], at == 0);
+        write_run(out, end - at, list[at], at == 0)?;
         runs += 1;
         at = end;
     }
-    io::write_all(1, b"\n");
-    runs
+    out.write_all(b"\n")?;
+    Ok(runs)
 }
 
 // How many digits it wrote.
-fn write_decimal(n: u32) -> usize
-    ensures { (result ≡ length (decimal_of n)) × (result ≤ 10) }
+fn write_decimal<W: Write>(out: &mut W, n: u32) -> Result<usize>
+    ensures { IfOk result (λ places. (places ≡ length (decimal_of n)) × (places ≤ 10)) }
 {
     let mut text = [0u8; 20];
     let places = io::decimal(n as u64, &mut text);
-    io::write_all(1, &text[..places]);
-    places
+    out.write_all(&text[..places])?;
+    Ok(places)
 }
 
 // A number of records; answers the line's number of bytes.
-pub fn write_count(count: u32) -> usize
-    ensures { result ≡ length (count_line count) }
+pub fn write_count<W: Write>(out: &mut W, count: u32) -> Result<usize>
+    ensures { IfOk result (λ n. n ≡ length (count_line count)) }
 {
-    io::write_all(1, b"done ");
-    let places = write_decimal(count);
-    io::write_all(1, b"\n");
-    places + 6
+    out.write_all(b"done ")?;
+    let places = write_decimal(out, count)?;
+    out.write_all(b"\n")?;
+    Ok(places + 6)
 }
 
 // Two numbers of records; answers the line's number of bytes.
-pub fn write_counts(first: u32, second: u32) -> usize
-    ensures { result ≡ length (counts_line first second) }
+pub fn write_counts<W: Write>(out: &mut W, first: u32, second: u32) -> Result<usize>
+    ensures { IfOk result (λ n. n ≡ length (counts_line first second)) }
 {
-    io::write_all(1, b"done ");
-    let places = write_decimal(first);
-    io::write_all(1, b" ");
-    let more = write_decimal(second);
-    io::write_all(1, b"\n");
-    places + more + 7
+    out.write_all(b"done ")?;
+    let places = write_decimal(out, first)?;
+    out.write_all(b" ")?;
+    let more = write_decimal(out, second)?;
+    out.write_all(b"\n")?;
+    Ok(places + more + 7)
 }

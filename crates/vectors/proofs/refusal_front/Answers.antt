@@ -1,0 +1,8 @@
+-- `refusal_front` is `refusal_front`: its digits are those of the row and the place.
+use borrow.Author.Rules.{rules}
+use Rattle.vectors.specs.Hex.{refusal_front}
+use Rattle.vectors.proofs.refusal_front.Goals as goal
+
+pub returns : goal.returns
+unfolding refusal_front
+returns c = (rw (c.hex-place.ensures.0, c.place.ensures, c.hex-row.ensures.0, c.number.ensures), search rules)
