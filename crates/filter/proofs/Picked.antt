@@ -18,7 +18,7 @@ use Rattle.quads.specs.declared.Quad.{Quad}
 use Rattle.refusal.specs.declared.Gate.TheVariants.{Open}
 use Rattle.quads.specs.Call.{words_of, gate_of}
 use Rattle.quads.specs.Merge as quads
-use Rattle.quads.specs.inner.Merging as quads-inner
+use Rattle.quads.specs.inner.Merging as quads_inner
 use Rattle.quads.specs.inner.Ordering.{Exist}
 use Rattle.quads.specs.Arranged.{Arranged}
 use Rattle.quads.proofs.Apart.{Different, all_different}
@@ -152,11 +152,11 @@ kept_from i marks qs given = kept_have i.quads (λ (q : ℕ). get_or marks q 0) 
 
 -- ---- the promises of merging, of quads that it made
 
-pub kept_different : (m : quads.Input) → quads_inner.Sound m → (i : Input) (marks : List ℕ) → i.quads ≡ words_of (quads.mergedOf m)
+pub kept_different : (m : quads.Input) → quads_inner.Sound m → (i : Input) (marks : List ℕ) → i.quads ≡ words_of (quads.merged_of m)
     → (q : Quad) → Memᴰ q (kept_of i marks) → Different q × Exist (length m.xs) q
-kept_different m sound i marks given q k = all_different m sound q (kept_from i marks (quads.mergedOf m) given q k)
+kept_different m sound i marks given q k = all_different m sound q (kept_from i marks (quads.merged_of m) given q k)
 
 -- merging's rows are enough
-pub kept_ordered : (m : quads.Input) → gate_of m ≡ Open → (i : Input) (marks : List ℕ) → i.quads ≡ words_of (quads.mergedOf m)
+pub kept_ordered : (m : quads.Input) → gate_of m ≡ Open → (i : Input) (marks : List ℕ) → i.quads ≡ words_of (quads.merged_of m)
     → (q : Quad) → Memᴰ q (kept_of i marks) → Arranged m q
-kept_ordered m through i marks given q k = open_ordered m through q (kept_from i marks (quads.mergedOf m) given q k)
+kept_ordered m through i marks given q k = open_ordered m through q (kept_from i marks (quads.merged_of m) given q k)

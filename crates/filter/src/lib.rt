@@ -1,5 +1,7 @@
 // The three filters of quads: crowded corners, uneven opposing sides, and cells of the wrong size in their group.
 // `filter_quads` is the call; `inner` has the stage without its checks.
+#![tactic(auto)]
+
 ghost use Rattle.filter.specs.Input.{given};
 ghost use Rattle.filter.specs.Call.{Allowed};
 

@@ -1,0 +1,11 @@
+-- `lesser` is `lesser_of`.
+use Rattle.filter.specs.Opposing.{lesser_of}
+use Rattle.filter.proofs.opposing.lesser.Goals as goal
+
+pub returns-then-a-b : goal.returns-then-a-b
+unfolding lesser_of
+returns-then-a-b c = rw c.if-a-b.true
+
+pub returns-else-a-b : goal.returns-else-a-b
+unfolding lesser_of
+returns-else-a-b c = rw c.if-a-b.false
