@@ -16,7 +16,7 @@ use Rattle.walk.specs.Input as walk
 use Rattle.walk.specs.Call as walk_call
 use Rattle.frame.specs.declared.Params.{Params}
 use Rattle.frame.specs.Stages as frame
-use Rattle.frame.specs.Call as frame-call
+use Rattle.frame.specs.Call as frame_call
 use Rattle.abi.specs.declared.Number.{Number}
 use Rattle.abi.specs.declared.Apart.{Apart}
 use Rattle.abi.specs.declared.Cache.{Cache}
