@@ -1,6 +1,7 @@
 -- What a call of the system that moves bytes came to, by its answer and by errno. Only an answer of 0 moved nothing, which of a read is the
 -- end of the input; one below 0 failed, or was cut off by a signal.
-use Rattle.std.specs.Prelude.{Bool, true, false, cond, List, ℕ, min, ◌≤◌, ◌<◌, eqb, ℤ, pos, negsuc}
+use Rattle.std.specs.Prelude.{Bool, true, false, cond, List, ℕ, min, ◌≤◌, ◌<◌, eqb, ℤ, pos, negsuc, Option, length, take}
+use Rattle.std.specs.Io.KnownBytes.{Keeps, Consumes, Appends, IsAtEnd}
 use Rattle.io.specs.Counts.{IsPrefixLen}
 use Rattle.streams.specs.declared.Moved.{Moved}
 use Rattle.streams.specs.declared.Moved.TheVariants.{Some, Nothing, Interrupted, Failed}
@@ -44,3 +45,22 @@ MovedWithin most Failed = Unit
 abbrev pub ReadFront : Text → List ℕ → Type 0
 ReadFront (text.Read n) list = IsPrefixLen n list
 ReadFront text.Failed list = Unit
+
+-- what a read into a part, that came to this, did to the bytes that its reader has left, where those are known: `old` before it, `new` after
+abbrev pub ReadBy : Moved → (old new : Option (List ℕ)) → (part : List ℕ) → Type 0
+ReadBy (Some n) old new part = Consumes old new (take n part)
+ReadBy Nothing old new part = Keeps old new × (0 < length part → IsAtEnd new)
+ReadBy Interrupted old new part = Keeps old new
+ReadBy Failed old new part = Keeps old new
+
+-- what a write of a part, that came to this, did to the bytes that its writer holds, where those are known
+abbrev pub WrittenBy : Moved → (old new : Option (List ℕ)) → (part : List ℕ) → Type 0
+WrittenBy (Some n) old new part = Appends old new (take n part)
+WrittenBy Nothing old new part = Keeps old new
+WrittenBy Interrupted old new part = Keeps old new
+WrittenBy Failed old new part = Keeps old new
+
+-- what was read stands at the front of the list and is gone from the reader, which is at its end unless the list is full
+abbrev pub WholeRead : Text → (old new : Option (List ℕ)) → (list : List ℕ) → Type 0
+WholeRead (text.Read n) old new list = Consumes old new (take n list) × (n < length list → IsAtEnd new)
+WholeRead text.Failed old new list = Unit

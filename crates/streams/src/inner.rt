@@ -1,7 +1,9 @@
-// A text read whole from a reader, and a text written whole. What a descriptor gives or takes no contract can say; `outcome` fixes what is
-// made of each call's answer. Where a call fails, errno is its error's number, and 0 where the system gave it none.
+// A text read whole from a reader, and a text written whole. What a descriptor gives or takes no contract can say; where
+// a reader's bytes are known, or a writer's, as over memory, the contracts say what becomes of them. `outcome` fixes what is made of each
+// call's answer. Where a call fails, errno is its error's number, and 0 where the system gave it none.
 ghost use Rattle.std.specs.Prelude.{true, ◌≡◌, length};
-ghost use Rattle.streams.specs.Moves.{is_interrupted, MovedWithin, ReadFront};
+ghost use Rattle.std.specs.Io.KnownBytes.{Appends};
+ghost use Rattle.streams.specs.Moves.{is_interrupted, MovedWithin, ReadBy, ReadFront, WholeRead, WrittenBy};
 
 use crate::{EINTR, Moved, Text, ended, outcome};
 use std::io::{Error, ErrorKind, Read, Write};
@@ -35,7 +37,8 @@ fn number(error: Error) -> i32 {
 }
 
 fn read_once<R: Read>(reader: &mut R, part: &mut [u8], errno: &mut i32) -> Moved
-    ensures { MovedWithin (length part.old) result }
+    ensures within { MovedWithin (length part.old) result }
+    ensures bytes { ReadBy result (R.remaining reader.old) (R.remaining reader.new) part.new }
 {
     let most = part.len().min(MOST_MOVED);
     match reader.read(&mut part[..most]) {
@@ -48,7 +51,8 @@ fn read_once<R: Read>(reader: &mut R, part: &mut [u8], errno: &mut i32) -> Moved
 }
 
 fn write_once<W: Write>(writer: &mut W, part: &[u8], errno: &mut i32) -> Moved
-    ensures { MovedWithin (length part.now) result }
+    ensures within { MovedWithin (length part.now) result }
+    ensures bytes { WrittenBy result (W.contents writer.old) (W.contents writer.new) part.now }
 {
     let most = part.len().min(MOST_MOVED);
     match writer.write(&part[..most]) {
@@ -62,7 +66,8 @@ fn write_once<W: Write>(writer: &mut W, part: &[u8], errno: &mut i32) -> Moved
 
 // One read, begun again where a signal cuts it off.
 fn read_some<R: Read>(reader: &mut R, part: &mut [u8], errno: &mut i32) -> Moved
-    ensures { MovedWithin (length part.old) result }
+    ensures within { MovedWithin (length part.old) result }
+    ensures bytes { ReadBy result (R.remaining reader.old) (R.remaining reader.new) part.new }
 {
     let mut tries = MOST_TRIES;
     while tries > 0 {
@@ -77,7 +82,8 @@ fn read_some<R: Read>(reader: &mut R, part: &mut [u8], errno: &mut i32) -> Moved
 
 // One write, likewise.
 fn write_some<W: Write>(writer: &mut W, part: &[u8], errno: &mut i32) -> Moved
-    ensures { MovedWithin (length part.now) result }
+    ensures within { MovedWithin (length part.now) result }
+    ensures bytes { WrittenBy result (W.contents writer.old) (W.contents writer.new) part.now }
 {
     let mut tries = MOST_TRIES;
     while tries > 0 {
@@ -92,7 +98,8 @@ fn write_some<W: Write>(writer: &mut W, part: &[u8], errno: &mut i32) -> Moved
 
 // Reads until the input ends or the list is full. A read that fails is a failure, however much came before it.
 pub fn read_whole<R: Read>(reader: &mut R, list: &mut [u8], errno: &mut i32) -> Text
-    ensures { ReadFront result list.new }
+    ensures front { ReadFront result list.new }
+    ensures bytes { WholeRead result (R.remaining reader.old) (R.remaining reader.new) list.new }
 {
     let mut at = 0;
     while at < list.len() {
@@ -108,7 +115,8 @@ pub fn read_whole<R: Read>(reader: &mut R, list: &mut [u8], errno: &mut i32) -> 
 // Writes all of the text, or answers false, when some of it may have been written. A write that takes a part is followed by one of the rest.
 // Where there is nothing to write the answer is true; else the writer's answers decide it.
 pub fn write_whole<W: Write>(writer: &mut W, text: &[u8], errno: &mut i32) -> bool
-    ensures { length text.now ≡ 0 → result ≡ true }
+    ensures nothing { length text.now ≡ 0 → result ≡ true }
+    ensures bytes { result ≡ true → Appends (W.contents writer.old) (W.contents writer.new) text.now }
 {
     let mut at = 0;
     while at < text.len() {

@@ -1,5 +1,8 @@
 // A file of vectors, read whole; `list` takes lists from it, and `runs` writes them.
+ghost use Rattle.std.specs.Prelude.{OnOk};
 ghost use Rattle.std.specs.Io.{ReadsAtMost};
+ghost use Rattle.std.specs.Io.KnownBytes.{Appends};
+ghost use Rattle.vectors.specs.inner.Lines.{heading};
 
 pub mod list;
 pub mod runs;
@@ -13,9 +16,10 @@ use streams::inner::read_whole;
 
 // Writes a file's heading and reads the file to the start of text; answers how many bytes that is. It fails where the heading is not written,
 // or the file does not open or is not read; the heading, or some of it, may then be written. No contract can speak of what a file holds, nor
-// of standard output: the gate compares what the programs write.
+// of standard output, but of what a writer over memory holds: the gate compares what the programs write.
 pub fn load<R: Files, W: Write>(rt: &R, out: &mut W, name: &[u8], text: &mut [u8]) -> Result<usize>
-    ensures { ReadsAtMost result text.new }
+    ensures within { ReadsAtMost result text.new }
+    ensures bytes { OnOk result (Appends (W.contents out.old) (W.contents out.new) (heading name.now)) }
 {
     out.write_all(b"# ")?;
     out.write_all(name)?;

@@ -1,6 +1,10 @@
--- What the lines of the programs tell beside a refusal: numbers of records in decimal, and a list as runs of equal words.
+-- What the lines of the programs tell beside a refusal: a file's name, numbers of records in decimal, and a list as runs of equal words.
 use Rattle.std.specs.Prelude.{cond, List, [], ◌∷◌, ◌++◌, ◌≡◌, ℕ, zero, suc, ◌+◌, ◌≤◌, ◌<◌, eqb, length, get_or}
 use Rattle.digits.specs.Digits.{decimal_of}
+
+-- a file's heading: "# ", its name, and the line's end
+unfoldable pub heading : List ℕ → List ℕ
+heading name = 35 ∷ 32 ∷ (name ++ (10 ∷ []))
 
 -- "done" and the number
 unfoldable pub count_line : ℕ → List ℕ

@@ -1,7 +1,8 @@
 // Answers as lines: a refusal, numbers of records, and a list as runs: the length of each maximal run of equal words, and the word.
-// What goes to standard output no contract can say; each answers how much its line tells. Where the writer fails, some of the line may be
-// written.
-ghost use Rattle.std.specs.Prelude.{◌≡◌, ◌<◌, ◌≤◌, length, IfOk};
+// Each answers how much its line tells; where it is known what the writer holds, as over memory, the contracts of all but the runs say that
+// it grows by the line. Where the writer fails, some of the line may be written.
+ghost use Rattle.std.specs.Prelude.{◌≡◌, ◌<◌, ◌≤◌, length, IfOk, OnOk};
+ghost use Rattle.std.specs.Io.KnownBytes.{Appends};
 ghost use Rattle.vectors.specs.Hex.{beside_field, refusal_line};
 ghost use Rattle.digits.specs.Digits.{decimal_of};
 ghost use Rattle.vectors.specs.inner.Lines.{count_line, counts_line, runs_of, Run};
@@ -11,7 +12,8 @@ use std::io::{Result, Write};
 
 // The field's number of bytes: 0 where the row has nothing beside its place.
 fn write_beside<W: Write>(out: &mut W, why: Refusal) -> Result<usize>
-    ensures { IfOk result (λ n. (n ≡ length (beside_field why)) × (n ≤ 9)) }
+    ensures len { IfOk result (λ n. (n ≡ length (beside_field why)) × (n ≤ 9)) }
+    ensures bytes { OnOk result (Appends (W.contents out.old) (W.contents out.new) (beside_field why)) }
 {
     if refusal::has_beside(refusal::number(why)) {
         let field = crate::field(refusal::beside(why));
@@ -23,7 +25,8 @@ fn write_beside<W: Write>(out: &mut W, why: Refusal) -> Result<usize>
 
 // The line's number of bytes.
 pub fn write_refusal<W: Write>(out: &mut W, why: Refusal) -> Result<usize>
-    ensures { IfOk result (λ n. n ≡ length (refusal_line why)) }
+    ensures len { IfOk result (λ n. n ≡ length (refusal_line why)) }
+    ensures bytes { OnOk result (Appends (W.contents out.old) (W.contents out.new) (refusal_line why)) }
 {
     let front = crate::refusal_front(why);
     out.write_all(&front)?;
@@ -81,7 +84,8 @@ pub fn write_runs<W: Write>(out: &mut W, list: &[u32]) -> Result<usize>
 
 // How many digits it wrote.
 fn write_decimal<W: Write>(out: &mut W, n: u32) -> Result<usize>
-    ensures { IfOk result (λ places. (places ≡ length (decimal_of n)) × (places ≤ 10)) }
+    ensures len { IfOk result (λ places. (places ≡ length (decimal_of n)) × (places ≤ 10)) }
+    ensures bytes { OnOk result (Appends (W.contents out.old) (W.contents out.new) (decimal_of n)) }
 {
     let mut text = [0u8; 20];
     let places = io::decimal(n as u64, &mut text);
@@ -91,7 +95,8 @@ fn write_decimal<W: Write>(out: &mut W, n: u32) -> Result<usize>
 
 // A number of records; answers the line's number of bytes.
 pub fn write_count<W: Write>(out: &mut W, count: u32) -> Result<usize>
-    ensures { IfOk result (λ n. n ≡ length (count_line count)) }
+    ensures len { IfOk result (λ n. n ≡ length (count_line count)) }
+    ensures bytes { OnOk result (Appends (W.contents out.old) (W.contents out.new) (count_line count)) }
 {
     out.write_all(b"done ")?;
     let places = write_decimal(out, count)?;
@@ -101,7 +106,8 @@ pub fn write_count<W: Write>(out: &mut W, count: u32) -> Result<usize>
 
 // Two numbers of records; answers the line's number of bytes.
 pub fn write_counts<W: Write>(out: &mut W, first: u32, second: u32) -> Result<usize>
-    ensures { IfOk result (λ n. n ≡ length (counts_line first second)) }
+    ensures len { IfOk result (λ n. n ≡ length (counts_line first second)) }
+    ensures bytes { OnOk result (Appends (W.contents out.old) (W.contents out.new) (counts_line first second)) }
 {
     out.write_all(b"done ")?;
     let places = write_decimal(out, first)?;
