@@ -2,8 +2,9 @@
 -- them have room there.
 use mathlib.Core.Path.{◌≡◌, refl}
 use mathlib.Core.List.{[], ◌∷◌, ◌++◌}
-use Prim.Native.Nat.{◌<◌}
+use Prim.Native.Nat.{ℕ, ◌<◌}
 use native.Mathlib.Omega.{arith}
+use lib.ListN.{get_or}
 use Rattle.digits.specs.Digits.{decimal_of}
 use Rattle.gridtext.specs.Answer.{components_text}
 use Rattle.gridtext.specs.inner.Printed.{Room, last_fields}
@@ -12,24 +13,24 @@ use Rattle.gridtext.proofs.Joining.{joined, joined_none, joined_more, joined_roo
 use Rattle.gridtext.proofs.Reading.{count_word, readable, answer_parts, answer_first}
 use Rattle.gridtext.proofs.Bounds.{answer_room}
 use Rattle.gridtext.proofs.inner.print.print_components.Goals as goal
-use Rattle.gridtext.proofs.inner.print.print_components.Goals.{After-shared_slice_known-2-1}
+use Rattle.gridtext.proofs.inner.print.print_components.Goals.{Start}
 
-has_room : (c : After-shared_slice_known-2-1) → Room c.args.out.now 0 (components_text c.requires.answer)
-has_room c =
-    answer_room c.args.components.now c.args.entries.now (λ k. omega (arith, c.type_inv.components k)) (λ k. omega (arith, c.type_inv.entries k)) c.args.count c.args.out.now (omega (arith, c.ranges.count)) c.requires
+has_room : (c : Start) → ((k : ℕ) → get_or c.args.components.now k 0 < 4294967296) → ((k : ℕ) → get_or c.args.entries.now k 0 < 4294967296) → Room c.args.out.now 0 (components_text c.requires.answer)
+has_room c a b =
+    answer_room c.args.components.now c.args.entries.now a b c.args.count c.args.out.now (omega (arith, c.ranges.count)) c.requires
 
 pub put_bytes-word-requires : goal.put_bytes-word-requires
-put_bytes-word-requires c = room_first c.args.out.now 0 count_word ((last_fields (decimal_of c.args.count ∷ [])) ++ (joined (component_piece c.args.components.now c.args.entries.now) c.args.count)) (answer_first c.requires.holds) (has_room (goal.at.put_bytes-word-requires c).After-shared_slice_known-2-1)
+put_bytes-word-requires c = room_first c.args.out.now 0 count_word ((last_fields (decimal_of c.args.count ∷ [])) ++ (joined (component_piece c.args.components.now c.args.entries.now) c.args.count)) (answer_first c.requires.holds) (has_room (goal.at.put_bytes-word-requires c).Start (λ k. omega (arith, c.type_inv.components k)) (λ k. omega (arith, c.type_inv.entries k)))
 
 pub end_one-next-requires : goal.end_one-next-requires
 end_one-next-requires c =
     let m = c.put_bytes-word in
-    room_first m.new.out m.result (last_fields (decimal_of c.args.count ∷ [])) (joined (component_piece c.args.components.now c.args.entries.now) c.args.count) refl (room_next ((last_fields (decimal_of c.args.count ∷ [])) ++ (joined (component_piece c.args.components.now c.args.entries.now) c.args.count)) m.ensures (answer_first c.requires.holds) (has_room (goal.at.end_one-next-requires c).After-shared_slice_known-2-1))
+    room_first m.new.out m.result (last_fields (decimal_of c.args.count ∷ [])) (joined (component_piece c.args.components.now c.args.entries.now) c.args.count) refl (room_next ((last_fields (decimal_of c.args.count ∷ [])) ++ (joined (component_piece c.args.components.now c.args.entries.now) c.args.count)) m.ensures (answer_first c.requires.holds) (has_room (goal.at.end_one-next-requires c).Start (λ k. omega (arith, c.type_inv.components k)) (λ k. omega (arith, c.type_inv.entries k))))
 
 pub loop-j-init : goal.loop-j-init
 loop-j-init c =
     let p = printed_then c.put_bytes-word.ensures c.end_one-next.ensures in
-    (omega arith, joined_none (component_piece c.args.components.now c.args.entries.now) c.end_one-next.new.out c.end_one-next.result p.within, room_next (joined (component_piece c.args.components.now c.args.entries.now) c.args.count) p (answer_parts c.requires.holds) (has_room (goal.at.loop-j-init c).After-shared_slice_known-2-1))
+    (omega arith, joined_none (component_piece c.args.components.now c.args.entries.now) c.end_one-next.new.out c.end_one-next.result p.within, room_next (joined (component_piece c.args.components.now c.args.entries.now) c.args.count) p (answer_parts c.requires.holds) (has_room (goal.at.loop-j-init c).Start (λ k. omega (arith, c.type_inv.components k)) (λ k. omega (arith, c.type_inv.entries k))))
 
 pub put_component-next-requires : goal.put_component-next-requires
 put_component-next-requires c =
