@@ -1,98 +1,97 @@
 // Replays outside vectors of root, angle and distance: each argument names a file of data/, whose lines hold patterns as eight hex
 // digits. It writes the proved call's answer to each line, and the gate compares what it wrote with the oracle's answers.
+#![tactic(auto)]
+
 use measure::inner::{float_of, word_of};
 use measure::{Distance, Measured};
+use std::io::Write;
+use std::rt::{HostRuntime, Stdout};
+use std::{env, io};
 use vectors::inner::runs::write_refusal;
 use vectors::{hex, word_at};
 
-fn write_number(x: f32) {
+fn write_number(out: &mut Stdout, x: f32) -> io::Result<()> {
     let digits = hex(word_of(x));
-    io::write_all(1, &digits);
-    io::write_all(1, b"\n");
+    out.write_all(&digits)?;
+    out.write_all(b"\n")
 }
 
-fn write_measured(answer: Measured) {
+fn write_measured(out: &mut Stdout, answer: Measured) -> io::Result<()> {
     match answer {
-        Measured::Known(x) => write_number(x),
+        Measured::Known(x) => write_number(out, x),
         Measured::Refused(why) => {
-            write_refusal(why);
+            write_refusal(out, why)?;
+            Ok(())
         }
     }
 }
 
-fn write_distance(answer: Distance) {
+fn write_distance(out: &mut Stdout, answer: Distance) -> io::Result<()> {
     match answer {
-        Distance::Known(x) => write_number(x),
-        Distance::Missing => {
-            io::write_all(1, b"none\n");
-        }
+        Distance::Known(x) => write_number(out, x),
+        Distance::Missing => out.write_all(b"none\n"),
     }
 }
 
 // Lines of one pattern: the root of each.
-fn roots(text: &[u8]) {
+fn roots(out: &mut Stdout, text: &[u8]) -> io::Result<()> {
     let mut at = 0;
     while at < text.len() {
         if text.len() - at < 9 {
-            return;
+            return Ok(());
         }
-        write_measured(measure::root(float_of(word_at(text, at))));
+        write_measured(out, measure::root(float_of(word_at(text, at))))?;
         at += 9;
     }
+    Ok(())
 }
 
 // One line of two patterns: the angle of a difference, or the distance of an angle from an axis.
-fn pair(a: f32, b: f32, angles: bool) {
+fn pair(out: &mut Stdout, a: f32, b: f32, angles: bool) -> io::Result<()> {
     if angles {
-        write_measured(measure::angle(a, b));
+        write_measured(out, measure::angle(a, b))
     } else {
-        write_distance(measure::axis_distance(a, b));
+        write_distance(out, measure::axis_distance(a, b))
     }
 }
 
-fn pairs(text: &[u8], angles: bool) {
+fn pairs(out: &mut Stdout, text: &[u8], angles: bool) -> io::Result<()> {
     let mut at = 0;
     while at < text.len() {
         if text.len() - at < 18 {
-            return;
+            return Ok(());
         }
         let a = float_of(word_at(text, at));
         let b = float_of(word_at(text, at + 9));
-        pair(a, b, angles);
+        pair(out, a, b, angles)?;
         at += 18;
     }
+    Ok(())
 }
 
 // A file's first letter says which rule its lines are for.
-fn replay(first: u8, text: &[u8]) {
+fn replay(out: &mut Stdout, first: u8, text: &[u8]) -> io::Result<()> {
     if first == b'r' {
-        roots(text);
+        roots(out, text)
     } else {
-        pairs(text, first == b'a');
+        pairs(out, text, first == b'a')
     }
 }
 
-fn file(name: &[u8]) {
+fn file(rt: &HostRuntime, out: &mut Stdout, name: &[u8]) -> io::Result<()> {
     if name.len() == 0 {
-        return;
+        return Ok(());
     }
     let first = name[0];
-    let mut text = io::large_buffer();
-    let n = vectors::inner::load(name, &mut text);
-    replay(first, &text[..n]);
+    let mut text = [0u8; 65536];
+    let n = vectors::inner::load(rt, out, name, &mut text)?;
+    replay(out, first, &text[..n])
 }
 
-fn argument(i: usize) {
-    let mut name = io::buffer();
-    let length = os::arg(i, &mut name);
-    file(&name[..length]);
-}
-
-fn main() {
-    let count = os::arg_count();
-    let mut i = 1;
-    while i < count {
-        argument(i);
-        i += 1;
+fn main(rt: HostRuntime) -> io::Result<()> {
+    let mut out = rt.stdout();
+    for name in env::args(&rt)?.skip(1) {
+        file(&rt, &mut out, name.as_bytes())?;
     }
+    Ok(())
 }

@@ -1,11 +1,13 @@
 // The three lists of a call that labels, from a case to the fronts of arrays, and after the call as lines. What goes to standard output no
-// contract can say; the functions that write answer how much their lines tell.
-ghost use Rattle.std.specs.Prelude.{◌≡◌, ◌≤◌, length};
+// contract can say; the functions that write answer how much their lines tell. Where the writer fails, some of the lines may be written.
+ghost use Rattle.std.specs.Prelude.{◌≡◌, ◌≤◌, length, IfOk, OnOk};
+ghost use Rattle.std.specs.Io.KnownBytes.{Appends};
 ghost use Rattle.vectors.specs.inner.Lines.{runs_of};
 ghost use Rattle.vectors.specs.inner.Lists.{Front, Onward};
 ghost use Rattle.told.specs.inner.Lending.{Lends};
 ghost use Rattle.told.specs.inner.Answer.{answer_line};
 
+use std::io::{Result, Write};
 use vectors::inner::list::fill;
 use vectors::inner::runs::{write_counts, write_refusal, write_runs};
 use walk::Labelled;
@@ -52,27 +54,34 @@ pub fn lend(
     }
 }
 
-fn write_answer(answer: Labelled) -> usize
-    ensures { result ≡ length (answer_line answer) }
+fn write_answer<W: Write>(out: &mut W, answer: Labelled) -> Result<usize>
+    ensures len { IfOk result (λ n. n ≡ length (answer_line answer)) }
+    ensures bytes { OnOk result (Appends (W.contents out.old) (W.contents out.new) (answer_line answer)) }
 {
     match answer {
-        Labelled::Done(components, entries) => write_counts(components, entries),
-        Labelled::Refused(why) => write_refusal(why),
+        Labelled::Done(components, entries) => write_counts(out, components, entries),
+        Labelled::Refused(why) => write_refusal(out, why),
     }
 }
 
 // The answer, then the three lists after the call.
-pub fn write_told(answer: Labelled, work: &[u32], components: &[u32], entries: &[u32]) -> Lines
-    ensures { (result.answer ≡ length (answer_line answer)) × (result.work ≡ runs_of work.now) × (result.components ≡ runs_of components.now) × (result.entries ≡ runs_of entries.now) }
+pub fn write_told<W: Write>(
+    out: &mut W,
+    answer: Labelled,
+    work: &[u32],
+    components: &[u32],
+    entries: &[u32],
+) -> Result<Lines>
+    ensures { IfOk result (λ lines. (lines.answer ≡ length (answer_line answer)) × (lines.work ≡ runs_of work.now) × (lines.components ≡ runs_of components.now) × (lines.entries ≡ runs_of entries.now)) }
 {
-    let line = write_answer(answer);
-    let in_work = write_runs(work);
-    let in_components = write_runs(components);
-    let in_entries = write_runs(entries);
-    Lines {
+    let line = write_answer(out, answer)?;
+    let in_work = write_runs(out, work)?;
+    let in_components = write_runs(out, components)?;
+    let in_entries = write_runs(out, entries)?;
+    Ok(Lines {
         answer: line,
         work: in_work,
         components: in_components,
         entries: in_entries,
-    }
+    })
 }
