@@ -4,9 +4,9 @@
  * is and where its lists come from; examples/frame.c labels one.
  *
  * LINKING
- * On x86-64 `rt staticlib abi` writes target/staticlib/libabi.a; `tools/native-archive abi OUT` writes one for this machine's processor,
- * and with a target as third word one for that. Then: cc -Iinclude program.c libabi.a -lm (for C's fmodf; beside it the archive asks for
- * memset alone).
+ * `tools/native-archive abi OUT` writes libabi.a for this machine's processor, and with a target as third word one for that. `rt lib` in
+ * the folder crates/abi writes out/libabi.a there, for x86-64's second level, x86-64-v2, and later. Then: cc -Iinclude program.c libabi.a
+ * -lm (for C's fmodf; beside it the archive asks for memset alone).
  *
  * FLOATING POINT
  * The proofs are about IEEE 754 as a program has it at its start: rounding to nearest, subnormals kept. A call made in a thread with

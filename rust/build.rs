@@ -53,7 +53,7 @@ fn make(archive: &Path) {
         Ok(_) => refuse("tools/native-archive abi failed; NGEUNSADOK_ARCHIVE may name an archive that is there already"),
         Err(why) => refuse(&format!("sh: {why}")),
     }
-    let tools = ["native-archive", "signatures.awk", "for-arm.awk", "header.awk"].map(|tool| format!("tools/{tool}"));
+    let tools = ["native-archive", "signatures.awk", "header.awk"].map(|tool| format!("tools/{tool}"));
     for part in tools.iter().map(String::as_str).chain(["include/ngeunsadok.h", "crates.txt"]) {
         println!("cargo:rerun-if-changed={}", root.join(part).display());
     }

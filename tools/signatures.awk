@@ -1,7 +1,8 @@
-# signatures.awk FILES: the calls that a crate exports, from its source. For each function marked #[no_mangle], a line: its name, what it
-# returns, then for each argument as the compiler's output has it a word. A struct returned is the word `struct`; a list is `ptr i64`.
-# A function whose arguments or answer would not travel alike on x86-64 and on Arm, or that this cannot read, is refused by name: a struct
-# by value, a number of less than 32 bits, a struct of floats alone.
+# signatures.awk FILES: the calls that a crate exports, from its source. For each function marked #[unsafe(no_mangle)], a line: its name,
+# what it returns, then a word for each argument, or two: a number is i32, i64, float or double, a list `ptr i64`, its address and its
+# length. A struct returned is the word `struct`.
+# A function whose arguments or answer are of another form, or that this cannot read, is refused by name: a struct by value, a number of
+# less than 32 bits, a struct of floats alone. Those travel in other ways on x86-64 and on Arm, and no call here has been tried with them.
 
 function plain(type) {
     if (type == "f32") return "float"
@@ -55,7 +56,7 @@ function exported(head,    name, inside, back, n, k, argument, type, words) {
 /^[ \t]*pub struct [A-Za-z0-9_]+ *\{/ { struct = $0; sub(/^.*struct /, "", struct); sub(/[ {].*$/, "", struct); fields[struct] = ""; next }
 struct != "" && /\}/ { struct = "" }
 struct != "" { type = $0; sub(/^[^:]*:/, "", type); gsub(/[ \t,]/, "", type); fields[struct] = fields[struct] " " type }
-/^[ \t]*#\[no_mangle\]/ { open = 1; text = ""; sub(/^.*no_mangle\]/, "") }
+/^[ \t]*#\[unsafe\(no_mangle\)\]/ { open = 1; text = ""; sub(/^.*no_mangle\)\]/, "") }
 open { text = text " " $0 }
 open && /(ensures|requires|\{)/ { open = 0; sub(/(ensures|requires|\{).*$/, "", text); waiting[++texts] = text }
 END {

@@ -58,8 +58,8 @@
 //! # Linking
 //!
 //! The lists are laid out as `include/ngeunsadok.h` says. The build makes the archive with `tools/native-archive` for cargo's target, which
-//! needs the Rattle kit; where `NGEUNSADOK_ARCHIVE` names an archive, by its full path, that one is linked as it is. On x86-64
-//! `rt staticlib abi` writes one to `target/staticlib/libabi.a`.
+//! needs the Rattle kit; where `NGEUNSADOK_ARCHIVE` names an archive, by its full path, that one is linked as it is. In the folder
+//! crates/abi `rt lib` writes one to `out/libabi.a`, for x86-64.
 
 mod frame;
 mod labels;

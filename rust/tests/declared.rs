@@ -88,7 +88,7 @@ fn paired(parts: Vec<Part>) -> Vec<Part> {
 fn rattle() -> Declared {
     let (text, mut declared) = (text("../crates/abi/src/lib.rt", "//"), Declared::new());
     structs(&text, &mut declared);
-    functions(&text, "#[no_mangle]\npub extern \"C\" fn ", &['{', '\n'], |parts| parts, &mut declared);
+    functions(&text, "#[unsafe(no_mangle)]\npub extern \"C\" fn ", &['{', '\n'], |parts| parts, &mut declared);
     declared
 }
 

@@ -16,7 +16,7 @@ use Rattle.walk.specs.Input as walk
 use Rattle.walk.specs.Call as walk_call
 use Rattle.frame.specs.declared.Params.{Params}
 use Rattle.frame.specs.Stages as frame
-use Rattle.frame.specs.Call as frame-call
+use Rattle.frame.specs.Call as frame_call
 use Rattle.abi.specs.declared.Number.{Number}
 use Rattle.abi.specs.declared.Apart.{Apart}
 use Rattle.abi.specs.declared.Cache.{Cache}
@@ -58,7 +58,7 @@ pub record ClassesTold : Type 0 where
   pub fits : List Float
 
 abbrev pub classes_told : edges.Outcome → ClassesTold
-classes_told o = record { told = verdict_from (edges.classifiedTold o.answer); classes = o.classes; fits = o.fits }
+classes_told o = record { told = verdict_from (edges.classified_told o.answer); classes = o.classes; fits = o.fits }
 
 -- what is told of the quads, and the quad list after
 pub record QuadsTold : Type 0 where
@@ -66,18 +66,18 @@ pub record QuadsTold : Type 0 where
   pub quads : List ℕ
 
 abbrev pub quads_told : pairs.Outcome → QuadsTold
-quads_told o = record { told = count_from (pairs.mergedTold o.answer); quads = o.quads }
+quads_told o = record { told = count_from (pairs.merged_told o.answer); quads = o.quads }
 
 -- what is told of the filters, and both lists after, are an outcome that the call allows
 pub record FilterTold (i : Input) (work kept : List ℕ) (told : Count) (work_after kept_after : List ℕ) : Type 0 where
   pub answer : Filtered
-  pub tells : told ≡ count_from (filters.filteredTold answer)
+  pub tells : told ≡ count_from (filters.filtered_told answer)
   pub allowed : filters.Allowed i work kept (record { answer = answer; work = work_after; kept = kept_after })
 
 -- what is told, and the three lists after, are an outcome that is allowed
 pub record CountsTold (allows : walk_call.Outcome → Type 0) (told : Counts) (work_after components_after entries_after : List ℕ) : Type 0 where
   pub answer : Labelled
-  pub tells : told ≡ counts_from (walk_call.labelledTold answer)
+  pub tells : told ≡ counts_from (walk_call.labelled_told answer)
   pub allowed : allows (record { answer = answer; work = work_after; components = components_after; entries = entries_after })
 
 -- of the labelling, and of a whole frame

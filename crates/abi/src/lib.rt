@@ -1,5 +1,7 @@
 // What C and Rust link: each public call with answers that cross the boundary, fixed by the call's own definition.
 // For C each list is a pointer and the number of its elements.
+#![tactic(auto)]
+
 ghost use Rattle.std.specs.Prelude.{◌≡◌};
 ghost use Rattle.measure.specs.Angle.{angle_of};
 ghost use Rattle.measure.specs.Distance.{distance_of};

@@ -15,6 +15,8 @@ pub mod Touching
 pub mod Whole
 pub mod Unique
 pub mod Squares
+pub mod Trilaws
+pub mod BothKinds
 pub mod Reach
 pub mod Tests
 pub mod Laying

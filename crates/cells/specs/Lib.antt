@@ -4,6 +4,8 @@ pub mod Kind
 pub mod Counted
 pub mod Sums
 pub mod Quads
+pub mod Triangles
+pub mod BothKinds
 pub mod Listed
 pub mod Holes
 pub mod Twin

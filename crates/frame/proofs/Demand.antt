@@ -19,7 +19,7 @@ use Rattle.filter.specs.Marks.{Marked, kept_of}
 use Rattle.walk.specs.declared.Labelled.TheVariants.{Done, Refused}
 use Rattle.walk.specs.Input as labels
 use Rattle.walk.specs.Input.{quad_count, GroupsOf, grouping}
-use Rattle.walk.specs.Call as labelling-call
+use Rattle.walk.specs.Call as labelling_call
 use Rattle.walk.specs.Call.{Outcome}
 use Rattle.walk.specs.Call.Allowed.{labelled as labelled_quads}
 use Rattle.walk.specs.Read.{entry_at, before_of, count_of, holes_of, component_at, components_from}

@@ -42,11 +42,11 @@ use Rattle.frame.specs.Examples.{four_round, program_frame, printed, Examples}
 
 classed : classes_of (classing program_frame) ≡ 1 ∷ 1 ∷ 2 ∷ 2 ∷ 1 ∷ 1 ∷ []
 unfolding classes.frame
-classed = classes.of-the-frame
+classed = classes.of_the_frame
 
 made : words_of (merged_of (merging program_frame)) ≡ 0 ∷ 1 ∷ 2 ∷ 3 ∷ []
 unfolding quads.frame
-made = rw classed quads.of-the-frame
+made = rw classed quads.of_the_frame
 
 -- the filters read one square
 read : filtering program_frame ≡ square

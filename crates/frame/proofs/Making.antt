@@ -9,7 +9,7 @@ use Rattle.mesh.specs.Lists.{most_quads}
 use Rattle.classify.specs.Classes.{classes_of}
 use Rattle.quads.specs.Call.{words_of}
 use Rattle.quads.specs.Merge as merge
-use Rattle.quads.specs.inner.Merging as merge-inner
+use Rattle.quads.specs.inner.Merging as merge_inner
 use Rattle.quads.specs.Merge.{merged_of}
 use Rattle.frame.specs.Stages.{Input, classing, merging}
 use Rattle.frame.specs.Call.{judge_of}

@@ -16,10 +16,10 @@ use Rattle.mesh.specs.Cells.{corners_row, twice_row}
 use Rattle.mesh.specs.Twins.{twin_offends, twins_row}
 use Rattle.mesh.proofs.Open.{work_open, positions_open, corners_open, twice_open, twins_open, twin_sound}
 use Rattle.classify.specs.Call.{lengths_gate as class_lengths}
-use Rattle.classify.specs.inner.Triangle as classes-inner
+use Rattle.classify.specs.inner.Triangle as classes_inner
 use Rattle.classify.specs.Classes.{classes_of}
-use Rattle.classify.proofs.Sound as classes-sound
-use Rattle.quads.specs.inner.Merging as merge-inner
+use Rattle.classify.proofs.Sound as classes_sound
+use Rattle.quads.specs.inner.Merging as merge_inner
 use Rattle.quads.specs.Merge.{merged_of}
 use Rattle.quads.proofs.Apart.{all_different}
 use Rattle.quads.proofs.Made.{length_words}
@@ -34,7 +34,7 @@ use Rattle.frame.proofs.Written.{words_exist, words_clear}
 -- rows 1 and 2 are those of classes, with the twins where these have a class list
 pub lengths_open : (x y angles marks spreads triangles twins : ℕ) → lengths_gate x y angles marks spreads triangles twins ≡ Open → classes_sound.Paired x y angles marks spreads triangles twins
 unfolding lengths_gate class_lengths
-lengths_open x y angles marks spreads triangles twins e = classes_sound.lengths-open x y angles marks spreads triangles twins e
+lengths_open x y angles marks spreads triangles twins e = classes_sound.lengths_open x y angles marks spreads triangles twins e
 
 -- rows 4 to 7
 record Values (xs ys : List Float) (triangles twins : List ℕ) : Type 0 where

@@ -55,8 +55,8 @@ twice_through size cells clear = clear_through _ (length cells / size) _ clear
 
 -- ---- the rows of the call
 
-pub kept_through : (i : Input) (words : ℕ) → entry_gate i words ≡ Open → (marks : List ℕ) → labels.entryGate (labelling i (kept_of (filtering i) marks)) words ≡ Open
-unfolding labels.entryGate gate_of
+pub kept_through : (i : Input) (words : ℕ) → entry_gate i words ≡ Open → (marks : List ℕ) → labels.entry_gate (labelling i (kept_of (filtering i) marks)) words ≡ Open
+unfolding labels.entry_gate gate_of
 kept_through i words through marks =
     let rows = entry_open i words through in
     let kept : List Quad = kept_of (filtering i) marks in

@@ -1,5 +1,7 @@
 // A whole frame: classes, quads, the three filters, labelling, in one call.
 // `label_frame` is the call; `inner` has its rows and its work apart.
+#![tactic(auto)]
+
 ghost use Rattle.frame.specs.Stages.{given};
 ghost use Rattle.frame.specs.Call.{Allowed};
 

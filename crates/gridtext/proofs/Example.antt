@@ -182,6 +182,7 @@ leading_nought rest = record {
 }
   where
     other : (l : Line) (after : List ℕ) → 84 ∷ 32 ∷ 48 ∷ 48 ∷ rest ≡ line_of l ++ (10 ∷ after) → Behind (alone Optional.absent) l → ⊥
+    other (Line.params p) after e b = elim b [ ]
     other (Line.corner c) after e b = omega (arith, ap (λ (x : List ℕ). get_or x 0 0) e)
     other (Line.triangle t) after e b =
         let q : 48 ∷ 48 ∷ rest ≡ (decimal_of t.a ++ spaced (decimal_of t.b ∷ decimal_of t.c ∷ field_of decimal_of t.twin0 ∷ field_of decimal_of t.twin1 ∷ field_of decimal_of t.twin2 ∷ [])) ++ (10 ∷ after) = ap (λ (x : List ℕ). tail (tail x)) e in

@@ -15,7 +15,7 @@ use Rattle.digits.proofs.Forms.{Marked, one_hex, one_decimal, hex_first, decimal
 use Rattle.gridtext.specs.declared.inner.row.Few.{Few}
 use Rattle.gridtext.specs.declared.inner.row.Found.{Found}
 use Rattle.gridtext.specs.declared.inner.row.Kind.{Kind}
-use Rattle.gridtext.specs.Lines.{Field, field_of}
+use Rattle.gridtext.specs.Lines.{Field, field_of, IsWord}
 use Rattle.gridtext.specs.inner.Rows.{form_of, Allowed, spread_words, words_of, list_of, found_of, PairAt, FieldStands, FieldAt}
 use Rattle.gridtext.specs.Lists.{twin_word, word_of}
 
@@ -57,14 +57,15 @@ stands_within {form} {text} {at} {e} {v} {next} s =
     let l : length text - at ≡ length (form v) + suc (length text - next) = sym (length-drop at text) ∙ ap length s.is ∙ simp (length-append, length-drop) in
     omega (arith, s.on)
 
+-- where no word stands, and no minus can, no field does
+nothing_there : (text : List ℕ) (at e : ℕ) (k : Kind) (form : ℕ → List ℕ) → ((v : ℕ) → form_of k (Field.word v) ≡ form v) → ((rest : List ℕ) → Allowed k Field.minus → drop at text ≡ 45 ∷ e ∷ rest → ⊥) → ((v : ℕ) (rest : List ℕ) → IsWord v → drop at text ≡ form v ++ (e ∷ rest) → ⊥) → (f : Field) (rest : List ℕ) → Allowed k f → drop at text ≡ form_of k f ++ (e ∷ rest) → ⊥
+nothing_there text at e k form forms other n (Field.word v) rest (Allowed.word w) q = n v rest w (rw forms at q)
+nothing_there text at e k form forms other n Field.minus rest a q = other rest a (q ∙ minus_first k (e ∷ rest))
+
 module _ {text : List ℕ} {at e : ℕ} where
   -- what a reader of words takes is a field, where no minus can stand for one
   taken_field : (k : Kind) (form : ℕ → List ℕ) (few : ℕ → Few) → ((v : ℕ) → form_of k (Field.word v) ≡ form v) → ((v : ℕ) → words_of k (Field.word v) ≡ list_of (few v)) → ((rest : List ℕ) → Allowed k Field.minus → drop at text ≡ 45 ∷ e ∷ rest → ⊥) → (t : Taken) → Takes form text at e t → FieldAt k text at e (found_of few t)
-  taken_field k form few forms words other Taken.Nothing (Takes.nothing n) = FieldAt.nothing none
-    where
-      none : (f : Field) (rest : List ℕ) → Allowed k f → drop at text ≡ form_of k f ++ (e ∷ rest) → ⊥
-      none (Field.word v) rest (Allowed.word w) q = n v rest w (rw forms at q)
-      none Field.minus rest a q = other rest a (q ∙ minus_first k (e ∷ rest))
+  taken_field k form few forms words other Taken.Nothing (Takes.nothing n) = FieldAt.nothing (nothing_there text at e k form forms other n)
   taken_field k form few forms words other (Taken.Word w next) (Takes.word s) =
       let is : drop at text ≡ form_of k (Field.word w) ++ (e ∷ drop next text) = rw forms s.is in
       FieldAt.words (record { allowed = Allowed.word s.word; is = is; within = stands_within s }) (words w)
@@ -82,6 +83,7 @@ module _ {text : List ℕ} {at e : ℕ} where
     where
       plain : (f : Field) → Allowed Kind.Hex f → f ≡ Field.minus → ⊥
       plain (Field.word v) (Allowed.word w) e = let z : ◌≡◌ {A = ℕ} 0 1 = cc in omega arith
+      plain Field.minus x e = elim x [ ]
 
   pub decimal_field : (t : Taken) → Takes decimal_of text at e t → FieldAt Kind.Decimal text at e (found_of Few.One t)
   unfolding form_of field_of words_of word_of
@@ -89,6 +91,7 @@ module _ {text : List ℕ} {at e : ℕ} where
     where
       plain : (f : Field) → Allowed Kind.Decimal f → f ≡ Field.minus → ⊥
       plain (Field.word v) (Allowed.word w) e = let z : ◌≡◌ {A = ℕ} 0 1 = cc in omega arith
+      plain Field.minus x e = elim x [ ]
 
   pub spread_field : PairAt text at 45 e false → (t : Taken) → Takes hex_of text at e t → FieldAt Kind.Spread text at e (found_of (Few.Two 1) t)
   unfolding form_of field_of words_of spread_words

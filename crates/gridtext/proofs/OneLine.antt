@@ -18,6 +18,10 @@ use Rattle.gridtext.proofs.Rows.{Fits, row_of, one_of_row, rule_fields, fields_o
 one_row : (ks : List Kind) (fs gs : List Field) (r s : List ℕ) → Fits ks fs → Fits ks gs → row_of ks fs r ≡ row_of ks gs s → (fs ≡ gs) × (r ≡ s)
 unfolding row_of
 one_row [] [] [] r s Fits.none Fits.none e = (refl, e)
+one_row [] [] (g ∷ gs) r s _ x e = elim x [ ]
+one_row [] (f ∷ fs) gs r s x _ e = elim x [ ]
+one_row (k ∷ ks) [] gs r s x _ e = elim x [ ]
+one_row (k ∷ ks) (f ∷ fs) [] r s _ x e = elim x [ ]
 one_row (k ∷ ks) (f ∷ fs) (g ∷ gs) r s (Fits.more a p) (Fits.more b q) e =
     let h = one_of_row k (length ks) f g (row_of ks fs r) (row_of ks gs s) a b e in
     let t = one_row ks fs gs r s p q h.1 in

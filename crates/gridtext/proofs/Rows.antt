@@ -84,10 +84,11 @@ unfolding row_of
 row_less {text} {k} {ks} {at} {rest} {f} next row b is = go row.fields row.fits row.is
   where
     go : (fs : List Field) → Fits (k ∷ ks) fs → drop at text ≡ row_of (k ∷ ks) fs rest → RowAt text ks next rest
+    go [] x e = elim x [ ]
     go (g ∷ gs) (Fits.more a fits) e =
         record { fields = gs; fits = fits; is = (one_of_row k (length ks) f g (drop next text) (row_of ks gs rest) b a (sym is ∙ e)).1 }
 
-pub row_left : {text : List ℕ} {ks₀ ks : List Kind} {at₀ at : ℕ} {words rest : List ℕ} → Got text ks₀ at₀ ks at words → RowAt text ks₀ at₀ rest → RowAt text ks at rest
+pub row_left : {text : List ℕ} {ks₀ : List Kind} {at₀ : ℕ} {ks : List Kind} {at : ℕ} {words rest : List ℕ} → Got text ks₀ at₀ ks at words → RowAt text ks₀ at₀ rest → RowAt text ks at rest
 row_left Got.start row = row
 row_left (Got.more {next} g a is) row = row_less next (row_left g row) a is
 
@@ -103,6 +104,7 @@ unfolding row_of
 row_first {text} {k} {ks} {at} {rest} row = go row.fields row.fits row.is
   where
     go : (fs : List Field) → Fits (k ∷ ks) fs → drop at text ≡ row_of (k ∷ ks) fs rest → First text k (length ks) at
+    go [] x e = elim x [ ]
     go (f ∷ fs) (Fits.more a fits) e = record { field = f; allowed = a; after = row_of ks fs rest; is = e }
 
 -- with a row that stands behind them, they are a row
@@ -112,7 +114,7 @@ pub record Whole (text : List ℕ) (ks₀ : List Kind) (at₀ : ℕ) (rest words
   pub is : drop at₀ text ≡ row_of ks₀ fields rest
   pub gave : row_words ks₀ fields ≡ words
 
-pub whole : {text : List ℕ} {ks₀ ks : List Kind} {at₀ at : ℕ} {words rest : List ℕ} → Got text ks₀ at₀ ks at words → (fs : List Field) → Fits ks fs → drop at text ≡ row_of ks fs rest → Whole text ks₀ at₀ rest (words ++ row_words ks fs)
+pub whole : {text : List ℕ} {ks₀ : List Kind} {at₀ : ℕ} {ks : List Kind} {at : ℕ} {words rest : List ℕ} → Got text ks₀ at₀ ks at words → (fs : List Field) → Fits ks fs → drop at text ≡ row_of ks fs rest → Whole text ks₀ at₀ rest (words ++ row_words ks fs)
 unfolding row_of row_words
 whole Got.start fs fits is = record { fields = fs; fits = fits; is = is; gave = refl }
 whole {rest = rest} (Got.more {k} {ks} {at} {next} {words} {f} g a e) fs fits is =

@@ -1,5 +1,7 @@
 // A frame's text to its answer's text: `answer` is the program `gridlabel` but for its input and output. `inner` has the reader, the
 // labelling and the printer apart.
+#![tactic(auto)]
+
 ghost use Rattle.std.specs.Prelude.{◌≤◌, length};
 ghost use Rattle.gridtext.specs.Text.{Frame};
 ghost use Rattle.gridtext.specs.Gridlabel.{most_text, Answered};

@@ -1,0 +1,12 @@
+-- `tell_filtered` is `count_from` of `filtered_told`, arm by arm.
+use mathlib.Core.Path.{sym, ap}
+use Rattle.filter.specs.declared.Filtered.{Filtered}
+use Rattle.filter.specs.Call.{filtered_told}
+use Rattle.abi.specs.Answers.{count_from}
+use Rattle.abi.proofs.tell.tell_filtered.Goals as goal
+
+pub returns-in-Done : goal.returns-in-Done
+returns-in-Done c = ap (λ (a : Filtered). count_from (filtered_told a)) (sym c.in-Done.is)
+
+pub returns-in-Refused : goal.returns-in-Refused
+returns-in-Refused c = rw (c.beside.ensures, c.place.ensures, c.number.ensures) (ap (λ (a : Filtered). count_from (filtered_told a)) (sym c.in-Refused.is))
