@@ -1,5 +1,5 @@
 // Kinds 6 and 9: the components of a whole frame, and their entries, by rule 1 or by the rule given.
-ghost use Rattle.std.specs.Prelude.{◌≤◌, length};
+ghost use Rattle.std.specs.Prelude.{◌≤◌, length, IfOk};
 ghost use Rattle.vectors.specs.inner.Lists.{Onward};
 
 use axis::SpreadRule;
@@ -8,12 +8,15 @@ use fates::LabelParams;
 use filter::FilterParams;
 use frame::Params;
 use measure::inner::float_of;
+use std::io;
+use std::io::Stdout;
 use told::inner::{lend, write_told};
 use vectors::inner::list::{after, fill, fill_floats};
 use vectors::word_at;
 
 // The call's answer, and the three lists after it.
 fn label_lists(
+    out: &mut Stdout,
     x: &[f32],
     y: &[f32],
     angles: &[f32],
@@ -25,11 +28,12 @@ fn label_lists(
     work: &mut [u32],
     components: &mut [u32],
     entries: &mut [u32],
-) {
+) -> io::Result<()> {
     let answer = frame::label_frame(
         x, y, angles, marks, spreads, triangles, twins, params, work, components, entries,
     );
-    write_told(answer, work, components, entries);
+    write_told(out, answer, work, components, entries)?;
+    Ok(())
 }
 
 // The tolerance, the ratio, the least, the greatest, the spread limit, the least quads and the least corners.
@@ -63,6 +67,7 @@ fn params_at(text: &[u8], at: usize, rule: u32) -> Params
 // The lists that the call is lent, which end the case. All arrays are a little longer than the longest list of the vectors; no case at the
 // limit of half-edges is answered, so that the workspace need not hold one.
 fn with_lent(
+    out: &mut Stdout,
     text: &[u8],
     at: usize,
     x: &[f32],
@@ -73,9 +78,9 @@ fn with_lent(
     triangles: &[u32],
     twins: &[u32],
     params: Params,
-) -> usize
+) -> io::Result<usize>
     requires { at ≤ length text.now }
-    ensures { Onward text.now at result }
+    ensures { IfOk result (Onward text.now at) }
 {
     let mut work = [0u32; 65712];
     let mut components = [0u32; 12300];
@@ -85,6 +90,7 @@ fn with_lent(
     let n_components = lent.components;
     let n_entries = lent.entries;
     label_lists(
+        out,
         x,
         y,
         angles,
@@ -96,12 +102,13 @@ fn with_lent(
         &mut work[..n_work],
         &mut components[..n_components],
         &mut entries[..n_entries],
-    );
-    lent.next
+    )?;
+    Ok(lent.next)
 }
 
 // The lists of half-edges.
 fn with_half_edges(
+    out: &mut Stdout,
     text: &[u8],
     at: usize,
     x: &[f32],
@@ -110,9 +117,9 @@ fn with_half_edges(
     marks: &[u32],
     spreads: &[f32],
     params: Params,
-) -> usize
+) -> io::Result<usize>
     requires { at ≤ length text.now }
-    ensures { Onward text.now at result }
+    ensures { IfOk result (Onward text.now at) }
 {
     let mut triangles = [0u32; 24588];
     let mut twins = [0u32; 24588];
@@ -121,6 +128,7 @@ fn with_half_edges(
     let n_triangles = in_triangles.length;
     let n_twins = in_twins.length;
     with_lent(
+        out,
         text,
         in_twins.next,
         x,
@@ -135,9 +143,16 @@ fn with_half_edges(
 }
 
 // The lists of axes, two to a corner.
-fn with_axes(text: &[u8], at: usize, x: &[f32], y: &[f32], params: Params) -> usize
+fn with_axes(
+    out: &mut Stdout,
+    text: &[u8],
+    at: usize,
+    x: &[f32],
+    y: &[f32],
+    params: Params,
+) -> io::Result<usize>
     requires { at ≤ length text.now }
-    ensures { Onward text.now at result }
+    ensures { IfOk result (Onward text.now at) }
 {
     let mut angles = [0.0f32; 8208];
     let mut marks = [0u32; 8208];
@@ -149,6 +164,7 @@ fn with_axes(text: &[u8], at: usize, x: &[f32], y: &[f32], params: Params) -> us
     let n_marks = in_marks.length;
     let n_spreads = in_spreads.length;
     with_half_edges(
+        out,
         text,
         in_spreads.next,
         x,
@@ -161,9 +177,9 @@ fn with_axes(text: &[u8], at: usize, x: &[f32], y: &[f32], params: Params) -> us
 }
 
 // The parameters and the positions, then the rest.
-pub(crate) fn replay(text: &[u8], at: usize, rule: u32) -> usize
+pub(crate) fn replay(out: &mut Stdout, text: &[u8], at: usize, rule: u32) -> io::Result<usize>
     requires { at ≤ length text.now }
-    ensures { Onward text.now at result }
+    ensures { IfOk result (Onward text.now at) }
 {
     let params = params_at(text, at, rule);
     let mut x = [0.0f32; 4104];
@@ -172,5 +188,5 @@ pub(crate) fn replay(text: &[u8], at: usize, rule: u32) -> usize
     let in_y = fill_floats(text, in_x.next, &mut y);
     let n_x = in_x.length;
     let n_y = in_y.length;
-    with_axes(text, in_y.next, &x[..n_x], &y[..n_y], params)
+    with_axes(out, text, in_y.next, &x[..n_x], &y[..n_y], params)
 }
