@@ -1,0 +1,6 @@
+-- What is printed for what was read is the answer to all of the input.
+use Rattle.gridlabel.proofs.Outputs.{all_answered, on_ok}
+use Rattle.gridlabel.proofs.run.Goals as goal
+
+pub returns : goal.returns
+returns g c = on_ok _ (all_answered _ _ _ _ _ _ c.read_whole-text.ensures.front c.read_whole-text.ensures.bytes) c.print.ensures
