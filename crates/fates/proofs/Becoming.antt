@@ -21,7 +21,7 @@ use Rattle.cells.proofs.Counted.{exactly_same}
 use Rattle.laying.specs.inner.Layout.{Given}
 use Rattle.fates.specs.declared.LabelParams.{LabelParams}
 use Rattle.fates.specs.declared.Fate.{Fate}
-use Rattle.fates.specs.inner.Fates.{records_at, lone_at, fate_of, walked_of, key_in, seed_in, Laid, Walk, ReachedFrom, LoneFrom, Alone}
+use Rattle.fates.specs.inner.Fates.{records_at, lone_at, fate_of, walked_of, key_in, seed_in, Laid, Walk, ReachedFrom, IsLoneFrom, Alone}
 use Rattle.fates.specs.inner.Fates.Walk.{within, none, laid}
 use Rattle.fates.specs.Judged.{Labels, Becomes}
 use Rattle.fates.specs.inner.FateWords.{fate_at, is_labelled}
@@ -64,12 +64,12 @@ module _ (span : ℕ) (cells : List ℕ) (n : ℕ) (params : LabelParams) (numbe
     all_laid : fate_of span n xs q ≢ 0 → walked_of span n xs q ≢ 0 → Laid cells g (ReachedFrom cells g q) q xs (records_at span n) all
     all_laid z r = laid_by (A.walks q h) (lowest z) r
 
-    lone_laid : fate_of span n xs q ≢ 0 → walked_of span n xs q ≢ 0 → Laid cells g (LoneFrom cells g q) q xs (lone_at span) m
+    lone_laid : fate_of span n xs q ≢ 0 → walked_of span n xs q ≢ 0 → Laid cells g (IsLoneFrom cells g q) q xs (lone_at span) m
     lone_laid z r = laid_by (A.lones q h) (lowest z) r
 
     module _ (ys : List ℕ) (R : Ruled span n params all m xs ys q) where
       -- the lone corners are by either labelling
-      lones_are : (p : Laid cells g (ReachedFrom cells g q) q xs (records_at span n) all) (t : Laid cells g (LoneFrom cells g q) q xs (lone_at span) m) → Exactly (Lone quads cells q p.L) (runs_at span n ys q).lone.count
+      lones_are : (p : Laid cells g (ReachedFrom cells g q) q xs (records_at span n) all) (t : Laid cells g (IsLoneFrom cells g q) q xs (lone_at span) m) → Exactly (Lone quads cells q p.L) (runs_at span n ys q).lone.count
       lones_are p t =
           let r = R.lone.stretch in
           rw R.lone.count (exactly_same (Lone quads cells q t.L) (Lone quads cells q p.L)

@@ -76,7 +76,7 @@ fn tell_runs(work: &mut [u32], span: usize, n: usize)
 fn tally_groups(work: &mut [u32], at: usize, n: usize)
     requires n_in_bounds { (at + 2 * n ≤ length work.old) × (n ≤ most_corners) }
     requires by_index { (q : ℕ) → q < n → get_or work.old (at + q) 0 < n }
-    requires by_index_2 { (s : ℕ) → s < n → get_or work.old (at + n + s) 0 ≡ 0 }
+    requires cleared { (s : ℕ) → s < n → get_or work.old (at + n + s) 0 ≡ 0 }
     ensures { Filled work.old work.new (at + n) n n (equal (λ (q : ℕ). get_or work.old (at + q) 0) n) }
 {
     let mut q = 0;

@@ -13,7 +13,7 @@ use words::inner::{fill_zero, wide};
 fn tally_corners(quads: &[u32], work: &mut [u32], at: usize, corners: usize)
     requires corners_in_bounds { (at + corners ≤ length work.old) × (length quads.now ≤ 4 * most_quads) }
     requires by_index { (k : ℕ) → k < length quads.now → get_or quads.now k 0 < corners }
-    requires by_index_2 { (c : ℕ) → c < corners → get_or work.old (at + c) 0 ≡ 0 }
+    requires counts { (c : ℕ) → c < corners → get_or work.old (at + c) 0 ≡ 0 }
     ensures { Filled work.old work.new at corners corners (incidence quads.now) }
 {
     let mut j = 0;
@@ -39,14 +39,15 @@ fn illegal_at(work: &[u32], at: usize, c: u32) -> u32
     requires { at + c < length work.now }
     ensures { result ≡ one (ltb 8 (get_or work.now (at + c) 0)) }
 {
-    if work[at + wide(c)] > 8 { 1 } else { 0 }
+    let is_illegal = work[at + wide(c)] > 8;
+    if is_illegal { 1 } else { 0 }
 }
 
 // 1 for a quad with two illegal corners or more.
 fn crowd_mark(quads: &[u32], work: &[u32], at: usize, q: usize, corners: usize) -> u32
     requires q_in_bounds { (4 * q + 4 ≤ length quads.now) × (at + corners ≤ length work.now) }
     requires by_index { (k : ℕ) → k < length quads.now → get_or quads.now k 0 < corners }
-    requires by_index_2 { (c : ℕ) → c < corners → get_or work.now (at + c) 0 ≡ incidence quads.now c }
+    requires counts { (c : ℕ) → c < corners → get_or work.now (at + c) 0 ≡ incidence quads.now c }
     ensures { result ≡ one (crowded quads.now q) }
 {
     let first = illegal_at(work, at, quads[4 * q]) + illegal_at(work, at, quads[4 * q + 1]);
@@ -58,7 +59,7 @@ fn crowd_mark(quads: &[u32], work: &[u32], at: usize, q: usize, corners: usize) 
 fn write_crowds(quads: &[u32], work: &mut [u32], at: usize, corners: usize)
     requires quads_len_bound { (length quads.now / 4 ≤ at) × (at + corners ≤ length work.old) }
     requires by_index { (k : ℕ) → k < length quads.now → get_or quads.now k 0 < corners }
-    requires by_index_2 { (c : ℕ) → c < corners → get_or work.old (at + c) 0 ≡ incidence quads.now c }
+    requires counts { (c : ℕ) → c < corners → get_or work.old (at + c) 0 ≡ incidence quads.now c }
     ensures { Filled work.old work.new 0 (length quads.now / 4) (length quads.now / 4) (λ (q : ℕ). one (crowded quads.now q)) }
 {
     let n = quads.len() / 4;

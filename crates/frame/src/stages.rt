@@ -28,7 +28,7 @@ fn make_quads(
     classes: &mut [u32],
     quads: &mut [u32],
 ) -> usize
-    requires params_value { judge_of (given x y angles marks spreads triangles twins params) ≡ Open }
+    requires rows_open { judge_of (given x y angles marks spreads triangles twins params) ≡ Open }
     requires classes_len { (length classes.old ≡ length triangles.now) × (4 * most_quads ≤ length quads.old) }
     ensures { Made (given x.entry y.entry angles.entry marks.entry spreads.entry triangles.entry twins.entry params) classes.new result quads.new }
 {

@@ -40,17 +40,17 @@ unfolding of_bits round le is_nan first_of refuse_first within next_of misplaced
 let_through = refl
 
 -- "components 1", "component 0 4 0", "0 0 0", "0 1 3", "1 0 1", "1 1 2"
-pub document_answer : List ℕ
-document_answer =
+pub document_answer_text : List ℕ
+document_answer_text =
     (99 ∷ 111 ∷ 109 ∷ 112 ∷ 111 ∷ 110 ∷ 101 ∷ 110 ∷ 116 ∷ 115 ∷ 32 ∷ 49 ∷ 10 ∷ []) ++ (99 ∷ 111 ∷ 109 ∷ 112 ∷ 111 ∷ 110 ∷ 101 ∷ 110 ∷ 116 ∷ 32 ∷ 48 ∷ 32 ∷ 52 ∷ 32 ∷ 48 ∷ 10 ∷ [])
     ++ (48 ∷ 32 ∷ 48 ∷ 32 ∷ 48 ∷ 10 ∷ []) ++ (48 ∷ 32 ∷ 49 ∷ 32 ∷ 51 ∷ 10 ∷ []) ++ (49 ∷ 32 ∷ 48 ∷ 32 ∷ 49 ∷ 10 ∷ []) ++ (49 ∷ 32 ∷ 49 ∷ 32 ∷ 50 ∷ 10 ∷ [])
 
-text_is : components_text (printed ∷ []) ≡ document_answer
-unfolding document_answer components_text component_lines entry_lines entry_line numbers_line spaced decimal_of places_in holes places total width height held
+text_is : components_text (printed ∷ []) ≡ document_answer_text
+unfolding document_answer_text components_text component_lines entry_lines entry_line numbers_line spaced decimal_of places_in holes places total width height held
 text_is = refl
 
-pub document_answer_lem : Answers (last_fed (10 ∷ [])) document_answer
-document_answer_lem = subst (Answers (last_fed (10 ∷ []))) text_is (Answers.labelled frame document_text (rw lists_are let_through) (printed ∷ []) (rw lists_are of_the_frame))
+pub document_answer : Answers (last_fed (10 ∷ [])) document_answer_text
+document_answer = subst (Answers (last_fed (10 ∷ []))) text_is (Answers.labelled frame document_text (rw lists_are let_through) (printed ∷ []) (rw lists_are of_the_frame))
 
 -- "refused 11 5 2"
 pub not_back : refused_text (TwinNotBack 5 2) ≡ 114 ∷ 101 ∷ 102 ∷ 117 ∷ 115 ∷ 101 ∷ 100 ∷ 32 ∷ 49 ∷ 49 ∷ 32 ∷ 53 ∷ 32 ∷ 50 ∷ 10 ∷ []

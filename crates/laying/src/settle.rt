@@ -38,7 +38,7 @@ pub(crate) fn place(
     yd: u32,
 ) -> bool
     requires span_in_bounds { (4 * span ≤ length work.old) × (c < span) × (d < span) × (span ≤ most_corners) }
-    requires c_nonzero { c ≢ d }
+    requires apart { c ≢ d }
     ensures { Placed span work.old work.new c d xc yc xd yd result }
 {
     if settle(work, span, c, xc, yc) {
@@ -59,7 +59,7 @@ fn spread(
     yb: u32,
 ) -> bool
     requires span_in_bounds { (4 * span ≤ length work.old) × (c < span) × (d < span) × (span ≤ most_corners) }
-    requires c_nonzero { c ≢ d }
+    requires apart { c ≢ d }
     requires ends { Ends xa ya xb yb }
     ensures { Spread span work.old work.new c d xa ya xb yb result }
 {

@@ -26,7 +26,7 @@ fn step(
     requires given { Given span quads.now n }
     requires e_bound { (e < 4 * n) × (g < 4 * n) × (4 * span ≤ length work.old) }
     requires state { State span quads.now n seed work.old tail }
-    requires e_nonzero { mark work.old (e / 4) ≢ 0 }
+    requires marked { mark work.old (e / 4) ≢ 0 }
     requires across { Across quads.now e g }
     ensures { Went span quads.now n seed work.old work.new tail result (Meets quads.now e g) }
 {
@@ -57,7 +57,7 @@ fn meet(
     requires given { Given span quads.now n }
     requires e_bound { (e < 4 * n) × (g < 4 * n) × (4 * span ≤ length work.old) }
     requires state { State span quads.now n seed work.old tail }
-    requires e_nonzero { mark work.old (e / 4) ≢ 0 }
+    requires marked { mark work.old (e / 4) ≢ 0 }
     ensures { Went span quads.now n seed work.old work.new tail result (Meets quads.now e g) }
 {
     let p = e / 4;
@@ -84,7 +84,7 @@ fn scan(
     requires given { Given span quads.now n }
     requires e_bound { (e < 4 * n) × Table span quads.now n work.old }
     requires state { State span quads.now n seed work.old tail }
-    requires e_nonzero { mark work.old (e / 4) ≢ 0 }
+    requires marked { mark work.old (e / 4) ≢ 0 }
     ensures { Went span quads.now n seed work.old work.new tail result (Met quads.now n e) }
 {
     let first = wide(work[4 * span + RUNS * n + e]);
@@ -119,7 +119,7 @@ fn scan_once(
     requires given { Given span quads.now n }
     requires e_bound { (e < 4 * n) × Table span quads.now n work.old }
     requires state { State span quads.now n seed work.old tail }
-    requires e_nonzero { mark work.old (e / 4) ≢ 0 }
+    requires marked { mark work.old (e / 4) ≢ 0 }
     ensures { Went span quads.now n seed work.old work.new tail result (Met quads.now n e) }
 {
     let sense = sense_of(quads, span, n, e);
@@ -149,7 +149,7 @@ fn sides(
     requires given { Given span quads.now n }
     requires q_lt_n { (q < n) × Table span quads.now n work.old }
     requires state { State span quads.now n seed work.old tail }
-    requires q_nonzero { mark work.old q ≢ 0 }
+    requires marked { mark work.old q ≢ 0 }
     ensures { Went span quads.now n seed work.old work.new tail result (MetRound quads.now n q 4) }
 {
     let mut t = tail;

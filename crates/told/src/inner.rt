@@ -40,7 +40,7 @@ pub fn lend(
     entries: &mut [u32],
 ) -> Lent
     requires { at ≤ length text.now }
-    ensures is { Lends text.now at (record { work = work.entry.now; components = components.old; entries = entries.old }) (record { work = work.exit.now; components = components.new; entries = entries.new }) result }
+    ensures is { Lends text.now at (record { work = work.old; components = components.old; entries = entries.old }) (record { work = work.new; components = components.new; entries = entries.new }) result }
     ensures within { Front result.work work.new × Front result.components components.new × Front result.entries entries.new × Onward text.now at result.next }
 {
     let in_work = fill(text, at, work);

@@ -22,7 +22,7 @@ use Rattle.fates.specs.declared.LabelParams.{LabelParams}
 use Rattle.fates.specs.declared.Run.{Run}
 use Rattle.fates.specs.declared.Fate.{Fate}
 use Rattle.fates.specs.declared.Fate.TheVariants.{NotLowest, TooFewQuads, NoLabelling, TooFewLone, Kept}
-use Rattle.fates.specs.inner.Fates.{lone_at, corner_in, Laid, LoneFrom}
+use Rattle.fates.specs.inner.Fates.{lone_at, corner_in, Laid, IsLoneFrom}
 use Rattle.fates.specs.Judged.{Labels, Becomes, is_kept}
 use Rattle.fates.specs.inner.FateWords.{fate_at, is_labelled}
 use Rattle.fates.specs.inner.Index.{runs_at}
@@ -121,7 +121,7 @@ module _ {span n : ℕ} {cells : List ℕ} {params : LabelParams} {xs w : List �
 
   -- a group with a labelling
   module _ (s : ℕ) (h : s < n) (e : is_labelled (fate_at span n w s) ≡ true) where
-    laid : Laid cells g (LoneFrom cells g s) s w (lone_at span) o.m
+    laid : Laid cells g (IsLoneFrom cells g s) s w (lone_at span) o.m
     laid = o.lones s h e
 
     holds : Held (λ c. Lone quads cells s laid.L c) laid.L w (run s)

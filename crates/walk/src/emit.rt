@@ -204,7 +204,7 @@ fn store(list: &mut [u32], place: usize, a: u32, b: u32, c: u32)
 // Record k as an entry, with its words less the least.
 fn write_entry(work: &[u32], at: usize, k: usize, least: Least, entries: &mut [u32], place: usize)
     requires k_in_bounds { (at + 2 * k + 1 < length work.now) × (key_in work.now at k < 1073741824) }
-    requires x_bound { (least.x ≤ x_in work.now at k) × (least.y ≤ y_in work.now at k) }
+    requires least_bounds { (least.x ≤ x_in work.now at k) × (least.y ≤ y_in work.now at k) }
     requires place_in_bounds { 3 * place + 2 < length entries.old }
     ensures { entries.new ≡ pasted (3 * place) ((x_in work.now at k - least.x) ∷ (y_in work.now at k - least.y) ∷ corner_in work.now at k ∷ []) entries.old }
 {

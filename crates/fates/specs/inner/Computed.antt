@@ -6,7 +6,7 @@ use Rattle.cells.specs.Cells.{Neighbours, everyone}
 use Rattle.cells.specs.Groups.{Groups}
 use Rattle.cells.specs.Listed.{grouping_by}
 use Rattle.fates.specs.declared.LabelParams.{LabelParams}
-use Rattle.fates.specs.inner.Fates.{records_at, lone_at, Laid, ReachedFrom, LoneFrom}
+use Rattle.fates.specs.inner.Fates.{records_at, lone_at, Laid, ReachedFrom, IsLoneFrom}
 use Rattle.fates.specs.Judged.{Becomes}
 use Rattle.fates.specs.inner.FateWords.{fate_at, is_labelled}
 use Rattle.fates.specs.inner.Index.{Indexed}
@@ -22,7 +22,7 @@ pub record Computed (span : ℕ) (cells : List ℕ) (n : ℕ) (params : LabelPar
   pub few_all : all ≤ 4 * n
   pub few : m ≤ 4 * n
   pub alls : (q : ℕ) → q < n → is_labelled (fate_at span n ys q) ≡ true → Laid cells (grouping_by n number params.quads params.corners) (ReachedFrom cells (grouping_by n number params.quads params.corners) q) q ys (records_at span n) all
-  pub lones : (q : ℕ) → q < n → is_labelled (fate_at span n ys q) ≡ true → Laid cells (grouping_by n number params.quads params.corners) (LoneFrom cells (grouping_by n number params.quads params.corners) q) q ys (lone_at span) m
+  pub lones : (q : ℕ) → q < n → is_labelled (fate_at span n ys q) ≡ true → Laid cells (grouping_by n number params.quads params.corners) (IsLoneFrom cells (grouping_by n number params.quads params.corners) q) q ys (lone_at span) m
   pub ascends : (j k : ℕ) → j ≤ k → k < all → grouped_of ys (records_at span n) j ≤ grouped_of ys (records_at span n) k
   pub rises : (j k : ℕ) → j < k → k < m → grouped_of ys (lone_at span) j < grouped_of ys (lone_at span) k
   pub indexed : (q : ℕ) → q < n → Indexed span n ys all m q

@@ -79,8 +79,8 @@ module _ (cells : List ℕ) (g : Grouping) where
   abbrev pub ReachedFrom : ℕ → (ℕ → Pair) → ℕ → Type 0
   ReachedFrom s L c = ReachedCorner quads cells s c
 
-  abbrev pub LoneFrom : ℕ → (ℕ → Pair) → ℕ → Type 0
-  LoneFrom s L c = Lone quads cells s L c
+  abbrev pub IsLoneFrom : ℕ → (ℕ → Pair) → ℕ → Type 0
+  IsLoneFrom s L c = Lone quads cells s L c
 
   -- record k is of a laid group below s
   pub record Owned (span s a : ℕ) (w : List ℕ) (k : ℕ) : Type 0 where
@@ -100,7 +100,7 @@ module _ (cells : List ℕ) (g : Grouping) where
   -- there
   pub record Alone (span all m : ℕ) (w : List ℕ) : Type 0 where
     pub walks : (q : ℕ) → q < g.n → Walk (ReachedFrom q) q w (records_at span g.n) all (walked_of span g.n w q)
-    pub lones : (q : ℕ) → q < g.n → Walk (LoneFrom q) q w (lone_at span) m (walked_of span g.n w q)
+    pub lones : (q : ℕ) → q < g.n → Walk (IsLoneFrom q) q w (lone_at span) m (walked_of span g.n w q)
     pub sizes : (q : ℕ) → q < g.n → fate_of span g.n w q ≡ members quads cells g q
     pub own_all : (k : ℕ) → k < all → Owned span g.n (records_at span g.n) w k
     pub own : (k : ℕ) → k < m → Owned span g.n (lone_at span) w k

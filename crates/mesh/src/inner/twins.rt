@@ -32,7 +32,9 @@ fn runs_back(triangles: &[u32], e: usize, w: u32) -> bool
     let to = triangles[next_edge(e)];
     let back_from = triangles[back];
     let back_to = triangles[next_edge(back)];
-    back_from == to && back_to == from
+    let starts_at_end = back_from == to;
+    let ends_at_start = back_to == from;
+    starts_at_end && ends_at_start
 }
 
 fn twin_offends(triangles: &[u32], twins: &[u32], e: usize) -> bool

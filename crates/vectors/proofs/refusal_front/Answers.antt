@@ -1,4 +1,4 @@
--- `refusal_front` is `refusal_front`: its digits are those of the row and the place.
+-- `refusal_front` is the definition of its name: its digits are those of the row and the place.
 use borrow.Author.Rules.{rules}
 use Rattle.vectors.specs.Hex.{refusal_front}
 use Rattle.vectors.proofs.refusal_front.Goals as goal

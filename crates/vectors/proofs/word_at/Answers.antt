@@ -1,4 +1,4 @@
--- `word_at` is `word_at`: its tests ask whether the eight digits stand in the text.
+-- `word_at` is the definition of its name: its tests ask whether the eight digits stand in the text.
 use borrow.Author.Tests.{le-leb, lt-leb}
 use Prim.Native.Nat.{◌+◌}
 use lib.ListN.{length}

@@ -1,4 +1,4 @@
--- `cache_at` is `cache_at`: the slots 2k and 2k + 1 of each list.
+-- `cache_at` is the definition of its name: the slots 2k and 2k + 1 of each list.
 use Rattle.axis.specs.Cache.{cache_at}
 use Rattle.axis.proofs.inner.cache_at.Goals as goal
 

@@ -1,4 +1,4 @@
--- `cache_of` is `cache_of`: the two marks are `informative_of`.
+-- `cache_of` is the definition of its name: the two marks are `informative_of`.
 use Rattle.axis.proofs.inner.cache_of.Goals as goal
 
 pub returns : goal.returns

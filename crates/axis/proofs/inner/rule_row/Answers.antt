@@ -1,4 +1,4 @@
--- `rule_row` is `rule_row`: the two numbers are tried in turn.
+-- `rule_row` is the definition of its name: the two numbers are tried in turn.
 use borrow.Author.Tests.{eq-eqb, ne_eqb}
 use Rattle.axis.proofs.inner.rule_row.Goals as goal
 

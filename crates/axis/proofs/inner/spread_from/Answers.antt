@@ -1,4 +1,4 @@
--- `spread_from` is `spread_from`, by the same test.
+-- `spread_from` is the definition of its name, by the same test.
 use borrow.Author.Tests.{eq-eqb, ne_eqb}
 use Rattle.axis.specs.Cache.{spread_from}
 use Rattle.axis.proofs.inner.spread_from.Goals as goal

@@ -1,4 +1,4 @@
--- `lengths_gate` is `lengths_gate`: the rows in the same order.
+-- `lengths_gate` is the definition of its name: the rows in the same order.
 use Rattle.classify.specs.Call.{lengths_gate}
 use Rattle.classify.proofs.gate.lengths_gate.Goals as goal
 

@@ -1,4 +1,4 @@
--- `fit_of` is `fit_of`, judgement by judgement.
+-- `fit_of` is the definition of its name, judgement by judgement.
 use lib.Ieee.{neg, of_bits}
 use Rattle.classify.specs.Fits.{fit_of}
 use Rattle.classify.proofs.half_edge.fit_of.Goals as goal

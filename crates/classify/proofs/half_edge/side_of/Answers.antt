@@ -1,4 +1,4 @@
--- `side_of` is `side_of`: a match at each end.
+-- `side_of` is the definition of its name: a match at each end.
 use Rattle.classify.specs.Match.{side_of}
 use Rattle.classify.proofs.half_edge.side_of.Goals as goal
 

@@ -1,4 +1,4 @@
--- `angle_between` is `angle_between`.
+-- `angle_between` is the definition of its name.
 use Rattle.classify.specs.Classes.{angle_between}
 use Rattle.classify.proofs.inner.angle_between.Goals as goal
 

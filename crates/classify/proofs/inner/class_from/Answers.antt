@@ -1,4 +1,4 @@
--- `class_from` is `class_from`: 0, 1, and the rest.
+-- `class_from` is the definition of its name: 0, 1, and the rest.
 use mathlib.Core.Path.{◌≡◌, refl}
 use Prim.Native.Nat.{ℕ, zero, suc}
 use Rattle.classify.specs.declared.Class.TheVariants.{Diagonal}

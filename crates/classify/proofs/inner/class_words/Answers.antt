@@ -1,4 +1,4 @@
--- `class_words` is `class_words`: each class by its own judgement and the next two.
+-- `class_words` is the definition of its name: each class by its own judgement and the next two.
 use Rattle.classify.specs.inner.Triangle.{class_words}
 use Rattle.classify.proofs.inner.class_words.Goals as goal
 

@@ -1,4 +1,4 @@
--- `fits_by` is `fits_by`: three fits in order.
+-- `fits_by` is the definition of its name: three fits in order.
 use Rattle.classify.specs.inner.Triangle.{fits_by}
 use Rattle.classify.proofs.inner.fits_by.Goals as goal
 

@@ -16,7 +16,7 @@ inside : (c : After-wide-s) → c.wide-s.result < c.args.n
 inside c = omega (arith, named c, c.requires.by_index c.loop-q.q c.loop-q-test.true)
 
 pub loop-q-init : goal.loop-q-init
-loop-q-init c = (search rules, counted_none _ _ _ _ c.requires.by_index_2)
+loop-q-init c = (search rules, counted_none _ _ _ _ c.requires.cleared)
 
 pub overflow_add-work-in-loop-q : goal.overflow_add-work-in-loop-q
 overflow_add-work-in-loop-q c = search (rules, inside (goal.at.overflow_add-work-in-loop-q c).After-wide-s)

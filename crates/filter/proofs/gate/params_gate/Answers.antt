@@ -1,4 +1,4 @@
--- `params_gate` is `params_gate`: the parameters in the order of their numbers.
+-- `params_gate` is the definition of its name: the parameters in the order of their numbers.
 use Rattle.filter.specs.Call.{params_gate}
 use Rattle.filter.proofs.gate.params_gate.Goals as goal
 

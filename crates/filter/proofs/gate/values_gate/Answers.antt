@@ -1,4 +1,4 @@
--- `values_gate` is `values_gate`: the rows in the same order.
+-- `values_gate` is the definition of its name: the rows in the same order.
 use Rattle.filter.specs.Call.{values_gate}
 use Rattle.filter.proofs.gate.values_gate.Goals as goal
 

@@ -1,4 +1,4 @@
--- `side_word` is `side_word`: both corners of a side are named by a list of whole quads.
+-- `side_word` is the definition of its name: both corners of a side are named by a list of whole quads.
 use mathlib.Core.Path.{◌∙◌}
 use native.Mathlib.Omega.{arith}
 use Rattle.filter.proofs.Sides.{next_inside, side_ends}

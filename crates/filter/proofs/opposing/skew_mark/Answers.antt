@@ -1,4 +1,4 @@
--- `skew_mark` is `skew_mark`: a mark that is set stays, else the lengths decide.
+-- `skew_mark` is the definition of its name: a mark that is set stays, else the lengths decide.
 use borrow.Author.Tests.{eq-eqb, ne_eqb}
 use Rattle.filter.specs.inner.Steps.{skew_mark}
 use Rattle.filter.proofs.opposing.skew_mark.Goals as goal

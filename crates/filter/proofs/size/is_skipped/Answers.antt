@@ -1,4 +1,4 @@
--- `is_skipped` is `is_skipped`: the literal is 0.
+-- `is_skipped` is the definition of its name: the literal is 0.
 use Rattle.filter.specs.Size.{has_least, has_greatest, is_skipped}
 use Rattle.filter.proofs.Literal.{zero_bits}
 use Rattle.filter.proofs.size.is_skipped.Goals as goal

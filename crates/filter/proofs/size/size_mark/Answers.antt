@@ -1,4 +1,4 @@
--- `size_mark` is `size_mark`: a mark that is set stays, else the median and the lengths decide.
+-- `size_mark` is the definition of its name: a mark that is set stays, else the median and the lengths decide.
 use borrow.Author.Tests.{eq-eqb, ne_eqb}
 use Rattle.filter.specs.inner.Steps.{median_in, size_mark}
 use Rattle.filter.proofs.size.size_mark.Goals as goal

@@ -26,7 +26,7 @@ pub overflow_add-first-2 : goal.overflow_add-first-2
 overflow_add-first-2 c = omega (arith, flag_most _ c.illegal_at-4.ensures, flag_most _ c.illegal_at-3.ensures, flag_most _ c.illegal_at-2.ensures, flag_most _ c.illegal_at.ensures)
 
 pub returns-then-first-second-ge2 : goal.returns-then-first-second-ge2
-returns-then-first-second-ge2 c = crowded_many _ c.args.work.now c.args.at _ _ c.requires.q_in_bounds.0 c.requires.by_index c.requires.by_index_2 (omega (arith, c.if-first-second-ge2.true, c.illegal_at-4.ensures, c.illegal_at-3.ensures, c.illegal_at-2.ensures, c.illegal_at.ensures))
+returns-then-first-second-ge2 c = crowded_many _ c.args.work.now c.args.at _ _ c.requires.q_in_bounds.0 c.requires.by_index c.requires.counts (omega (arith, c.if-first-second-ge2.true, c.illegal_at-4.ensures, c.illegal_at-3.ensures, c.illegal_at-2.ensures, c.illegal_at.ensures))
 
 pub returns-else-first-second-ge2 : goal.returns-else-first-second-ge2
-returns-else-first-second-ge2 c = crowded_few _ c.args.work.now c.args.at _ _ c.requires.q_in_bounds.0 c.requires.by_index c.requires.by_index_2 (omega (arith, c.if-first-second-ge2.false, c.illegal_at-4.ensures, c.illegal_at-3.ensures, c.illegal_at-2.ensures, c.illegal_at.ensures))
+returns-else-first-second-ge2 c = crowded_few _ c.args.work.now c.args.at _ _ c.requires.q_in_bounds.0 c.requires.by_index c.requires.counts (omega (arith, c.if-first-second-ge2.false, c.illegal_at-4.ensures, c.illegal_at-3.ensures, c.illegal_at-2.ensures, c.illegal_at.ensures))

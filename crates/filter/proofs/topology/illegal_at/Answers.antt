@@ -3,10 +3,10 @@ use borrow.Author.Tests.{lt-ltb, le-ltb}
 use Rattle.words.specs.Sorting.{one}
 use Rattle.filter.proofs.topology.illegal_at.Goals as goal
 
-pub returns-then-work-at-gt8 : goal.returns-then-work-at-gt8
+pub returns-then-is_illegal : goal.returns-then-is_illegal
 unfolding one
-returns-then-work-at-gt8 c = rw (lt-ltb _ _ (rw c.wide.ensures at c.if-work-at-gt8.true))
+returns-then-is_illegal c = rw (lt-ltb _ _ (rw c.wide.ensures at c.if-is_illegal.true))
 
-pub returns-else-work-at-gt8 : goal.returns-else-work-at-gt8
+pub returns-else-is_illegal : goal.returns-else-is_illegal
 unfolding one
-returns-else-work-at-gt8 c = rw (le-ltb _ _ (rw c.wide.ensures at c.if-work-at-gt8.false))
+returns-else-is_illegal c = rw (le-ltb _ _ (rw c.wide.ensures at c.if-is_illegal.false))

@@ -14,7 +14,7 @@ inside : (c : After-wide-c) → c.wide-c.result < c.args.corners
 inside c = omega (arith, c.wide-c.ensures, c.requires.by_index c.loop-j.j c.loop-j-test.true)
 
 pub loop-j-init : goal.loop-j-init
-loop-j-init c = (search rules, tallied_none _ _ _ _ c.requires.by_index_2)
+loop-j-init c = (search rules, tallied_none _ _ _ _ c.requires.counts)
 
 pub overflow_add-work : goal.overflow_add-work
 overflow_add-work c = search (rules, inside (goal.at.overflow_add-work c).After-wide-c)

@@ -11,7 +11,7 @@ pub loop-q-init : goal.loop-q-init
 loop-q-init c = (search rules, search rules, filled_none _ _ _ _)
 
 pub crowd_mark-requires : goal.crowd_mark-requires
-crowd_mark-requires c = record { q_in_bounds = search rules; by_index = c.requires.by_index; by_index_2 = λ k h. kept_past c.loop-q.invariant.2.kept _ (search rules) ∙ c.requires.by_index_2 k h }
+crowd_mark-requires c = record { q_in_bounds = search rules; by_index = c.requires.by_index; counts = λ k h. kept_past c.loop-q.invariant.2.kept _ (search rules) ∙ c.requires.counts k h }
 
 pub loop-q-preserved : goal.loop-q-preserved
 loop-q-preserved c = (search rules, search rules, filled_grow _ _ c.loop-q.invariant.2 (omega arith) (search rules) c.crowd_mark.ensures)

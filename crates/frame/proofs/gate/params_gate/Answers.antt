@@ -1,4 +1,4 @@
--- `params_gate` is `params_gate`: the parameters in the order of their numbers, then the rule's.
+-- `params_gate` is the definition of its name: the parameters in the order of their numbers, then the rule's.
 use Rattle.frame.specs.Call.{params_gate}
 use Rattle.frame.proofs.gate.params_gate.Goals as goal
 

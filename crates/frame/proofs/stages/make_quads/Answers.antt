@@ -9,10 +9,10 @@ abbrev read : Start → Input
 read s = record { xs = s.args.x.now; ys = s.args.y.now; angles = s.args.angles.now; marks = s.args.marks.now; spreads = s.args.spreads.now; triangles = s.args.triangles.now; twins = s.args.twins.now; params = s.args.params }
 
 pub classify_triangles-requires : goal.classify_triangles-requires
-classify_triangles-requires c = (classing_sound (read (goal.at.classify_triangles-requires c).Start) c.requires.params_value, c.requires.classes_len.0)
+classify_triangles-requires c = (classing_sound (read (goal.at.classify_triangles-requires c).Start) c.requires.rows_open, c.requires.classes_len.0)
 
 pub write_quads-requires : goal.write_quads-requires
-write_quads-requires c = merge_asks (read (goal.at.write_quads-requires c).Start) _ c.classify_triangles.ensures c.requires.params_value _ c.requires.classes_len.1
+write_quads-requires c = merge_asks (read (goal.at.write_quads-requires c).Start) _ c.classify_triangles.ensures c.requires.rows_open _ c.requires.classes_len.1
 
 pub returns : goal.returns
 returns c =

@@ -24,7 +24,7 @@ pub slice_bounds-make_quads-end-2 : goal.slice_bounds-make_quads-end-2
 slice_bounds-make_quads-end-2 c = sym (length-take-le _ _ (edges_fit (goal.at.slice_bounds-make_quads-end-2 c).Start))
 
 pub make_quads-n-requires : goal.make_quads-n-requires
-make_quads-n-requires c = record { params_value = (entry_open (read (goal.at.make_quads-n-requires c).Start) _ c.requires.0).0; classes_len = (length-take-le _ _ (edges_fit (goal.at.make_quads-n-requires c).Start), c.requires.1) }
+make_quads-n-requires c = record { rows_open = (entry_open (read (goal.at.make_quads-n-requires c).Start) _ c.requires.0).0; classes_len = (length-take-le _ _ (edges_fit (goal.at.make_quads-n-requires c).Start), c.requires.1) }
 
 pub keep_quads-requires : goal.keep_quads-requires
 keep_quads-requires c =

@@ -13,7 +13,7 @@ apart c e =
     omega (arith, d)
 
 pub spread-requires : goal.spread-requires
-spread-requires c = record { span_in_bounds = (c.requires.g_bound.1, c.corner_of-c.ensures.1, c.corner_of-d.ensures.1, c.requires.given.most); c_nonzero = apart (goal.at.spread-requires c).After-slice_known-5-1; ends = ends_at c.args.span c.args.quads.now c.args.g _ _ c.args.work.now c.corner_of-a.ensures.0 c.corner_of-b.ensures.0 c.requires.ends_at }
+spread-requires c = record { span_in_bounds = (c.requires.g_bound.1, c.corner_of-c.ensures.1, c.corner_of-d.ensures.1, c.requires.given.most); apart = apart (goal.at.spread-requires c).After-slice_known-5-1; ends = ends_at c.args.span c.args.quads.now c.args.g _ _ c.args.work.now c.corner_of-a.ensures.0 c.corner_of-b.ensures.0 c.requires.ends_at }
 
 pub returns : goal.returns
 returns c = spread_at c.args.quads.now c.args.g _ _ _ _ c.corner_of-a.ensures.0 c.corner_of-b.ensures.0 c.corner_of-c.ensures.0 c.corner_of-d.ensures.0 c.spread.ensures

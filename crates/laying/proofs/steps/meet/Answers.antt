@@ -11,4 +11,4 @@ pub returns-then-corner_of-2 : goal.returns-then-corner_of-2
 returns-then-corner_of-2 c = went_none (Meets c.args.quads.now c.args.e c.args.g) c.requires.given c.requires.state (λ o. absurd (c.if-corner_of-2.true (c.corner_of-3.ensures.0 ∙ o.end ∙ sym c.corner_of-4.ensures.0)))
 
 pub step-requires : goal.step-requires
-step-requires c = record { given = c.requires.given; e_bound = c.requires.e_bound; state = c.requires.state; e_nonzero = c.requires.e_nonzero; across = record { start = sym c.corner_of.ensures.0 ∙ c.if-corner_of.false ∙ c.corner_of-2.ensures.0; end = sym c.corner_of-3.ensures.0 ∙ c.if-corner_of-2.false ∙ c.corner_of-4.ensures.0 } }
+step-requires c = record { given = c.requires.given; e_bound = c.requires.e_bound; state = c.requires.state; marked = c.requires.marked; across = record { start = sym c.corner_of.ensures.0 ∙ c.if-corner_of.false ∙ c.corner_of-2.ensures.0; end = sym c.corner_of-3.ensures.0 ∙ c.if-corner_of-2.false ∙ c.corner_of-4.ensures.0 } }

@@ -24,7 +24,7 @@ sides-tail-requires c =
     let l = c.loop-head in
     let h : l.head < l.tail = c.loop-head-test.true in
     let st = l.invariant.2.state in
-    record { given = c.requires.given; q_lt_n = (rw c.wide-q.ensures (st.cover.within l.head h), table_rest c.requires.table l.invariant.1); state = st; q_nonzero = rw c.wide-q.ensures (st.marked l.head h) }
+    record { given = c.requires.given; q_lt_n = (rw c.wide-q.ensures (st.cover.within l.head h), table_rest c.requires.table l.invariant.1); state = st; marked = rw c.wide-q.ensures (st.marked l.head h) }
 
 pub shape_of-work-then-tail-ge-STUCK : goal.shape_of-work-then-tail-ge-STUCK
 shape_of-work-then-tail-ge-STUCK c = (rest_trans c.loop-head.invariant.1 c.sides-tail.ensures.rest).len

@@ -52,7 +52,7 @@ meet-t-requires c =
     let l = c.loop-i in
     let h : l.i < 4 * c.args.n = c.loop-i-test.true in
     let g : c.wide-g.result < 4 * c.args.n = rw (c.wide-g.ensures, rest_low l.invariant.2 (4 * c.args.span + 2 * l.i + 1) (omega arith) (omega arith)) (c.requires.e_bound.1.sides l.i h) in
-    record { given = c.requires.given; e_bound = (c.requires.e_bound.0, g, omega (arith, c.requires.e_bound.1.room, l.invariant.2.len)); state = l.invariant.3.state; e_nonzero = l.invariant.3.grows.still (c.args.e / 4) (omega (arith, c.requires.given.few, c.requires.e_bound.0)) c.requires.e_nonzero }
+    record { given = c.requires.given; e_bound = (c.requires.e_bound.0, g, omega (arith, c.requires.e_bound.1.room, l.invariant.2.len)); state = l.invariant.3.state; marked = l.invariant.3.grows.still (c.args.e / 4) (omega (arith, c.requires.given.few, c.requires.e_bound.0)) c.requires.marked }
 
 pub shape_of-work-then-t-ge-STUCK : goal.shape_of-work-then-t-ge-STUCK
 shape_of-work-then-t-ge-STUCK c = (rest_trans c.loop-i.invariant.2 c.meet-t.ensures.rest).len

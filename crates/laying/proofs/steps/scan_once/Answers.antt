@@ -14,7 +14,7 @@ use Rattle.laying.proofs.steps.scan_once.Goals as goal
 use Rattle.laying.proofs.steps.scan_once.Goals.{After-sense_of-sense, After-wide, Start}
 
 reached : (c : Start) → Reached quads c.args.quads.now c.args.seed (c.args.e / 4)
-reached c = reached_at c.requires.state (omega (arith, c.requires.e_bound.0)) c.requires.e_nonzero
+reached c = reached_at c.requires.state (omega (arith, c.requires.e_bound.0)) c.requires.marked
 
 -- the run begins in the table
 in_table : (c : After-wide) → c.wide.result < 4 * c.args.n

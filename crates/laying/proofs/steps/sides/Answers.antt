@@ -16,7 +16,7 @@ scan_once-t-requires c =
     let l = c.loop-k in
     let h : l.k < 4 = c.loop-k-test.true in
     let e : (4 * c.args.q + l.k) / 4 ≡ c.args.q = omega arith in
-    record { given = c.requires.given; e_bound = (omega (arith, c.requires.q_lt_n.0), table_rest c.requires.q_lt_n.1 l.invariant.2); state = l.invariant.3.state; e_nonzero = rw e (l.invariant.3.grows.still c.args.q (omega (arith, c.requires.given.few, c.requires.q_lt_n.0)) c.requires.q_nonzero) }
+    record { given = c.requires.given; e_bound = (omega (arith, c.requires.q_lt_n.0), table_rest c.requires.q_lt_n.1 l.invariant.2); state = l.invariant.3.state; marked = rw e (l.invariant.3.grows.still c.args.q (omega (arith, c.requires.given.few, c.requires.q_lt_n.0)) c.requires.marked) }
 
 pub shape_of-work-then-t-ge-STUCK : goal.shape_of-work-then-t-ge-STUCK
 shape_of-work-then-t-ge-STUCK c = (rest_trans c.loop-k.invariant.2 c.scan_once-t.ensures.rest).len

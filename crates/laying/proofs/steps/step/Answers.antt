@@ -12,7 +12,7 @@ pub returns-then-work-p-ne0 : goal.returns-then-work-p-ne0
 returns-then-work-p-ne0 c = went_none (Meets c.args.quads.now c.args.e c.args.g) c.requires.given c.requires.state (λ o. c.if-work-p-ne0.true)
 
 pub lay-fits-requires : goal.lay-fits-requires
-lay-fits-requires c = record { given = c.requires.given; g_bound = (c.requires.e_bound.1, c.requires.e_bound.2); ends_at = step_ends c.args.span _ _ _ _ _ c.args.e c.args.g c.requires.given c.requires.state c.requires.e_bound.0 c.requires.e_bound.1 c.requires.e_nonzero c.requires.across }
+lay-fits-requires c = record { given = c.requires.given; g_bound = (c.requires.e_bound.1, c.requires.e_bound.2); ends_at = step_ends c.args.span _ _ _ _ _ c.args.e c.args.g c.requires.given c.requires.state c.requires.e_bound.0 c.requires.e_bound.1 c.requires.marked c.requires.across }
 
 room : (c : After-slice_known-3-1) → c.args.tail < c.args.n
 room c =
@@ -31,7 +31,7 @@ pub overflow_add-result : goal.overflow_add-result
 overflow_add-result c = omega (arith, room (goal.at.overflow_add-result c).After-slice_known-3-1, c.requires.given.few, c.requires.given.most)
 
 pub returns-then-fits : goal.returns-then-fits
-returns-then-fits c = went_on c.args.span _ _ _ _ _ c.args.e c.args.g c.requires.given c.requires.state c.requires.e_bound.0 c.requires.e_bound.1 c.requires.e_nonzero c.requires.across _ _ c.lay-fits.ensures c.if-work-p-ne0.false c.requires.e_bound.2 c.if-fits.true
+returns-then-fits c = went_on c.args.span _ _ _ _ _ c.args.e c.args.g c.requires.given c.requires.state c.requires.e_bound.0 c.requires.e_bound.1 c.requires.marked c.requires.across _ _ c.lay-fits.ensures c.if-work-p-ne0.false c.requires.e_bound.2 c.if-fits.true
 
 pub overflow_add-result-2 : goal.overflow_add-result-2
 overflow_add-result-2 c = omega (arith, room (goal.at.overflow_add-result-2 c).After-slice_known-3-1, c.requires.given.few, c.requires.given.most)
@@ -40,4 +40,4 @@ pub overflow_add-result-3 : goal.overflow_add-result-3
 overflow_add-result-3 c = omega (arith, room (goal.at.overflow_add-result-3 c).After-slice_known-3-1, c.requires.given.few, c.requires.given.most)
 
 pub returns : goal.returns
-returns c = went_wrong c.args.span _ _ _ _ _ c.args.e c.args.g c.requires.given c.requires.state c.requires.e_bound.0 c.requires.e_bound.1 c.requires.e_nonzero c.requires.across _ _ c.lay-fits.ensures c.if-work-p-ne0.false c.requires.e_bound.2 c.if-fits.false
+returns c = went_wrong c.args.span _ _ _ _ _ c.args.e c.args.g c.requires.given c.requires.state c.requires.e_bound.0 c.requires.e_bound.1 c.requires.marked c.requires.across _ _ c.lay-fits.ensures c.if-work-p-ne0.false c.requires.e_bound.2 c.if-fits.false

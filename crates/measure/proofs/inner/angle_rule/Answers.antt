@@ -1,4 +1,4 @@
--- `angle_rule` is `angle_rule`: each step is the definition's.
+-- `angle_rule` is the definition of its name: each step is the definition's.
 use Rattle.measure.specs.Angle.{angle_rule}
 use Rattle.measure.proofs.inner.angle_rule.Goals as goal
 

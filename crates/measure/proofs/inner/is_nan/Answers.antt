@@ -1,4 +1,4 @@
--- `is_nan` is `is_nan`: only a NaN differs from itself.
+-- `is_nan` is the definition of its name: only a NaN differs from itself.
 use Rattle.measure.proofs.Ranges.{nan_by}
 use Rattle.measure.proofs.inner.is_nan.Goals as goal
 

@@ -1,4 +1,4 @@
--- `is_position` is `is_position`: the literal is 1,048,576.
+-- `is_position` is the definition of its name: the literal is 1,048,576.
 use lib.Ieee.{of_bits}
 use Rattle.measure.proofs.Literals.{range}
 use Rattle.measure.proofs.inner.is_position.Goals as goal

@@ -1,4 +1,4 @@
--- `parameter_row` is `parameter_row`, by the same test.
+-- `parameter_row` is the definition of its name, by the same test.
 use Rattle.measure.proofs.inner.parameter_row.Goals as goal
 
 pub returns-then-is_nan : goal.returns-then-is_nan

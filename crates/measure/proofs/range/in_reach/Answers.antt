@@ -1,4 +1,4 @@
--- `in_reach` is `in_reach`: the literal is 2,097,152.
+-- `in_reach` is the definition of its name: the literal is 2,097,152.
 use lib.Ieee.{of_bits}
 use Rattle.measure.proofs.Literals.{reach}
 use Rattle.measure.proofs.range.in_reach.Goals as goal

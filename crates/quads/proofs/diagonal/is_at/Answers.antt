@@ -1,4 +1,4 @@
--- `is_at` is `is_at`, arm by arm.
+-- `is_at` is the definition of its name, arm by arm.
 use Rattle.quads.proofs.diagonal.is_at.Goals as goal
 
 pub returns-in-At : goal.returns-in-At

@@ -1,4 +1,4 @@
--- `union_of` is `union_of`, if it has four corners.
+-- `union_of` is the definition of its name, if it has four corners.
 use Rattle.quads.specs.Union.{union_of}
 use Rattle.quads.proofs.pair.union_of.Goals as goal
 

@@ -25,7 +25,7 @@ write_entry-requires c =
     let l = c.loop-k in
     let o = c.requires.ascending in
     let h : l.k < z.run.count = omega arith in
-    record { k_in_bounds = (omega (arith, o.room), o.keys l.k h); x_bound = (omega (arith, c.requires.x_value.0, x_low z.work.now z.run o l.k h), omega (arith, c.requires.x_value.1, y_low z.work.now z.run o l.k h)); place_in_bounds = omega (arith, l.invariant.2, c.requires.count_in_bounds) }
+    record { k_in_bounds = (omega (arith, o.room), o.keys l.k h); least_bounds = (omega (arith, c.requires.x_value.0, x_low z.work.now z.run o l.k h), omega (arith, c.requires.x_value.1, y_low z.work.now z.run o l.k h)); place_in_bounds = omega (arith, l.invariant.2, c.requires.count_in_bounds) }
 
 pub loop-k-preserved : goal.loop-k-preserved
 loop-k-preserved c =

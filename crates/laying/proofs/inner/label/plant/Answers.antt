@@ -13,10 +13,10 @@ pub to_word-one-requires : goal.to_word-one-requires
 to_word-one-requires c = record { word = 16385; of = record { is = refl; small = omega arith } }
 
 pub place-requires : goal.place-requires
-place-requires c = record { span_in_bounds = (c.requires.given.2, c.corner_of-a.ensures.1, c.corner_of-b.ensures.1, c.requires.given.0.most); c_nonzero = two_corners c.args.seed 0 1 _ _ c.requires.given.0 c.requires.given.1 (omega arith) c.corner_of-a.ensures.0 c.corner_of-b.ensures.0 }
+place-requires c = record { span_in_bounds = (c.requires.given.2, c.corner_of-a.ensures.1, c.corner_of-b.ensures.1, c.requires.given.0.most); apart = two_corners c.args.seed 0 1 _ _ c.requires.given.0 c.requires.given.1 (omega arith) c.corner_of-a.ensures.0 c.corner_of-b.ensures.0 }
 
 pub place-requires-2 : goal.place-requires-2
-place-requires-2 c = record { span_in_bounds = (omega (arith, c.requires.given.2, c.place.ensures.len), c.corner_of-c.ensures.1, c.corner_of-d.ensures.1, c.requires.given.0.most); c_nonzero = two_corners c.args.seed 2 3 _ _ c.requires.given.0 c.requires.given.1 (omega arith) c.corner_of-c.ensures.0 c.corner_of-d.ensures.0 }
+place-requires-2 c = record { span_in_bounds = (omega (arith, c.requires.given.2, c.place.ensures.len), c.corner_of-c.ensures.1, c.corner_of-d.ensures.1, c.requires.given.0.most); apart = two_corners c.args.seed 2 3 _ _ c.requires.given.0 c.requires.given.1 (omega arith) c.corner_of-c.ensures.0 c.corner_of-d.ensures.0 }
 
 pub offset_bounds-work-seed : goal.offset_bounds-work-seed
 offset_bounds-work-seed c = omega (arith, c.requires.given.0.few, c.requires.given.0.most, c.requires.given.1)

@@ -1,4 +1,4 @@
--- `classes_row` is `classes_row`, at the first offender.
+-- `classes_row` is the definition of its name, at the first offender.
 use Rattle.refusal.specs.declared.Refusal.TheVariants.{NoSuchClass}
 use Rattle.refusal.proofs.Rows.{shut_at, open_at}
 use Rattle.mesh.specs.Cells.{classes_row}

@@ -1,4 +1,4 @@
--- `corners_row` is `corners_row`, at the first offender.
+-- `corners_row` is the definition of its name, at the first offender.
 use Rattle.refusal.specs.declared.Refusal.TheVariants.{NoSuchCorner}
 use Rattle.refusal.proofs.Rows.{shut_at, open_at}
 use Rattle.mesh.specs.Cells.{corners_row}

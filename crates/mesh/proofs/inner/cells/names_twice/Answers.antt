@@ -1,4 +1,4 @@
--- `names_twice` is `names_twice`: no corner passed so far is named before it.
+-- `names_twice` is the definition of its name: no corner passed so far is named before it.
 use mathlib.Core.Path.{◌≡◌, sym, ◌∙◌}
 use native.Mathlib.Omega.{arith}
 use Rattle.mesh.specs.Cells.{names_twice}

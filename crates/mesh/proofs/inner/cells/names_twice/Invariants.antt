@@ -1,4 +1,4 @@
--- `names_twice` is `names_twice`: no corner passed so far is named before it.
+-- `names_twice` is the definition of its name: no corner passed so far is named before it.
 use Prim.Native.Nat.{ℕ, ◌≤◌, ◌-◌, ◌+◌, ◌*◌}
 use mathlib.Core.Path.{◌≡◌}
 use mathlib.Core.Bool.{false}

@@ -1,4 +1,4 @@
--- `twice_row` is `twice_row`, at the first offender.
+-- `twice_row` is the definition of its name, at the first offender.
 use lib.ListN.{length}
 use native.Mathlib.Nat.{div-le_self}
 use native.Mathlib.Omega.{arith}

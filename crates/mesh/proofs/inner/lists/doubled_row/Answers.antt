@@ -1,4 +1,4 @@
--- `doubled_row` is `doubled_row`: an even length is compared by its half.
+-- `doubled_row` is the definition of its name: an even length is compared by its half.
 use mathlib.Core.Path.{◌≡◌, refl, ap, ◌∙◌}
 use mathlib.Core.Bool.{Bool, true, false, not}
 use Prim.Native.Nat.{ℕ, ◌*◌, ◌/◌, ◌%◌}

@@ -1,4 +1,4 @@
--- `limit_row` is `limit_row`, by the same test.
+-- `limit_row` is the definition of its name, by the same test.
 use borrow.Author.Tests.{lt-ltb, le-ltb}
 use Rattle.mesh.proofs.inner.lists.limit_row.Goals as goal
 

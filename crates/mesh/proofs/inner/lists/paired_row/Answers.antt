@@ -1,4 +1,4 @@
--- `paired_row` is `paired_row`, by the same test.
+-- `paired_row` is the definition of its name, by the same test.
 use borrow.Author.Tests.{eq-eqb, ne_eqb}
 use Rattle.mesh.proofs.inner.lists.paired_row.Goals as goal
 

@@ -1,4 +1,4 @@
--- `work_row` is `work_row`: one test of two counts.
+-- `work_row` is the definition of its name: one test of two counts.
 use borrow.Author.Tests.{lt-ltb, le-ltb}
 use Rattle.mesh.proofs.inner.lists.work_row.Goals as goal
 

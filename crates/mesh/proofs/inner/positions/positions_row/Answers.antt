@@ -1,4 +1,4 @@
--- `positions_row` is `positions_row`, at the first offender.
+-- `positions_row` is the definition of its name, at the first offender.
 use Rattle.refusal.specs.declared.Refusal.TheVariants.{OutOfRange}
 use Rattle.refusal.proofs.Rows.{shut_at, open_at}
 use Rattle.mesh.specs.Positions.{positions_row}

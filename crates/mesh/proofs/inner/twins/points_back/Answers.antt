@@ -1,4 +1,4 @@
--- `points_back` is `points_back`.
+-- `points_back` is the definition of its name.
 use Rattle.mesh.proofs.inner.twins.points_back.Goals as goal
 
 pub returns : goal.returns

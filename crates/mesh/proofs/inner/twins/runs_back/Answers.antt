@@ -1,4 +1,4 @@
--- `runs_back` is `runs_back`: in a whole list the next half-edges are in the list.
+-- `runs_back` is the definition of its name: in a whole list the next half-edges are in the list.
 use Prim.Native.Nat.{◌<◌}
 use lib.ListN.{length}
 use borrow.Author.Tests.{eq-eqb, ne_eqb}
@@ -26,10 +26,10 @@ offset_bounds-triangles-next_edge-2 c = let h = back (goal.at.offset_bounds-tria
 pub bounds-triangles-next_edge-2 : goal.bounds-triangles-next_edge-2
 bounds-triangles-next_edge-2 c = let h = back (goal.at.bounds-triangles-next_edge-2 c).After-next_edge-2 in search rules
 
-pub returns-then-back_from-to : goal.returns-then-back_from-to
+pub returns-then-starts_at_end : goal.returns-then-starts_at_end
 unfolding runs_back
-returns-then-back_from-to c = rw (c.next_edge-2.ensures, c.wide-back.ensures, eq-eqb _ _ (rw (c.wide-back.ensures, c.next_edge.ensures) at c.if-back_from-to.true))
+returns-then-starts_at_end c = rw (c.next_edge-2.ensures, c.wide-back.ensures, eq-eqb _ _ (rw (c.wide-back.ensures, c.next_edge.ensures) at c.if-starts_at_end.true))
 
-pub returns-else-back_from-to : goal.returns-else-back_from-to
+pub returns-else-starts_at_end : goal.returns-else-starts_at_end
 unfolding runs_back
-returns-else-back_from-to c = rw (c.wide-back.ensures, c.next_edge.ensures, ne_eqb _ _ (rw (c.wide-back.ensures, c.next_edge.ensures) at c.if-back_from-to.false))
+returns-else-starts_at_end c = rw (c.wide-back.ensures, c.next_edge.ensures, ne_eqb _ _ (rw (c.wide-back.ensures, c.next_edge.ensures) at c.if-starts_at_end.false))

@@ -1,4 +1,4 @@
--- `twin_fault` is `twin_fault`: the tests in their order.
+-- `twin_fault` is the definition of its name: the tests in their order.
 use mathlib.Core.Path.{sym, ◌∙◌}
 use borrow.Author.Tests.{leb-false}
 use Rattle.mesh.specs.Twins.{twin_fault}

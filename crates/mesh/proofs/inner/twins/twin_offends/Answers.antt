@@ -1,4 +1,4 @@
--- `twin_offends` is `twin_offends`: the tests in their order.
+-- `twin_offends` is the definition of its name: the tests in their order.
 use mathlib.Core.Path.{◌≡◌, sym, ◌∙◌}
 use Prim.Native.Nat.{◌%◌, ◌<◌}
 use lib.ListN.{length, get_or}

@@ -1,4 +1,4 @@
--- `twins_row` is `twins_row`, at the first offender with its fault.
+-- `twins_row` is the definition of its name, at the first offender with its fault.
 use Rattle.refusal.proofs.Rows.{shut_at, open_at}
 use Rattle.mesh.specs.Twins.{twin_fault, twins_row}
 use Rattle.mesh.proofs.inner.twins.twins_row.Goals as goal
