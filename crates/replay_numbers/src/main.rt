@@ -4,8 +4,8 @@
 
 use measure::inner::{float_of, word_of};
 use measure::{Distance, Measured};
-use std::io::Write;
-use std::rt::{HostRuntime, Stdout};
+use std::io::{Error, ErrorKind, Write};
+use std::rt::{Env, HostRuntime, Stdout};
 use std::{env, io};
 use vectors::inner::runs::write_refusal;
 use vectors::{hex, word_at};
@@ -88,10 +88,19 @@ fn file(rt: &HostRuntime, out: &mut Stdout, name: &[u8]) -> io::Result<()> {
     replay(out, first, &text[..n])
 }
 
+fn argument(rt: &HostRuntime, out: &mut Stdout, i: usize) -> io::Result<()> {
+    let mut name = [0u8; 4096];
+    let Ok(length) = rt.arg(i, &mut name) else {
+        return Err(Error::from(ErrorKind::InvalidInput));
+    };
+    file(rt, out, &name[..length])
+}
+
 fn main(rt: HostRuntime) -> io::Result<()> {
     let mut out = rt.stdout();
-    for name in env::args(&rt)?.skip(1) {
-        file(&rt, &mut out, name.as_bytes())?;
+    let count = env::args(&rt)?.len();
+    for i in 1..count {
+        argument(&rt, &mut out, i)?;
     }
     Ok(())
 }
