@@ -8,6 +8,7 @@ pub mod Literals
 pub mod AngleBounds
 pub mod Own
 pub mod Rest
+pub mod Whole
 pub mod DistanceBounds
 pub mod Newton
 pub mod Squares

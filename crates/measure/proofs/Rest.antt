@@ -22,7 +22,7 @@ ours m e = m * up e * 4194304
 abbrev its : ℤ → ℕ
 its e = 13176795 * 1 * down e
 
-at_rest : (s : Bool) (m : ℕ) (e : ℤ) → T (fits binary32 (fin s m e)) → ours m e < its e → rem binary32 (fin s m e) pi ≡ fin s m e
+pub at_rest : (s : Bool) (m : ℕ) (e : ℤ) → T (fits binary32 (fin s m e)) → ours m e < its e → rem binary32 (fin s m e) pi ≡ fin s m e
 unfolding rem of_bits
 at_rest s m e t h =
     ap (λ (x : ℕ). round binary32 s x (down e * 4194304)) (mod-eq_of_lt h)

@@ -26,7 +26,7 @@ fn pattern_of_root(z: u64, f: u32) -> u32
     }
 }
 
-fn significand(b: u32) -> u32
+pub(crate) fn significand(b: u32) -> u32
     ensures { result ≡ sig_of b }
 {
     if b < 0x80_0000 {
@@ -36,7 +36,7 @@ fn significand(b: u32) -> u32
     }
 }
 
-fn exponent(b: u32) -> u32
+pub(crate) fn exponent(b: u32) -> u32
     ensures { result ≡ exp_of b }
 {
     if b < 0x80_0000 { 0 } else { b / 0x80_0000 - 1 }
