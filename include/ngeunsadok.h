@@ -6,7 +6,7 @@
  * LINKING
  * `tools/native-archive abi OUT` writes libabi.a for this machine's processor, and with a target as third word one for that. `rt lib` in
  * the folder crates/abi writes out/libabi.a there, for x86-64's second level, x86-64-v2, and later. Then: cc -Iinclude program.c libabi.a
- * -lm (for C's fmodf; beside it the archive asks for memset alone).
+ * -lm. Of the C library the archive asks for memset alone.
  *
  * FLOATING POINT
  * The proofs are about IEEE 754 as a program has it at its start: rounding to nearest, subnormals kept. A call made in a thread with
@@ -18,7 +18,7 @@
  * and lists that are only read may be shared.
  *
  * STACK
- * No call is recursive or allocates. The most that a call takes, with C's fmodf and memset and their first call through a dynamic linker:
+ * No call is recursive or allocates. The most that a call takes, with C's memset and its first call through a dynamic linker:
  *   ngeunsadok_label_frame                               96 KiB (NGEUNSADOK_STACK)
  *   ngeunsadok_filter_quads, ngeunsadok_label_components 24 KiB
  *   the others                                            8 KiB

@@ -16,7 +16,7 @@ fn main() {
     }
     println!("cargo:rustc-link-search=native={}", out.display());
     println!("cargo:rustc-link-lib=static=abi");
-    // For the rest by pi, which compiles to C's fmodf.
+    // Of the C library today's archive asks for memset alone; one that is named may ask for C's mathematics.
     println!("cargo:rustc-link-lib=m");
 }
 
