@@ -1,5 +1,7 @@
 -- The structs that cross the boundary to C: each is an answer in document 01's numbers, field by field; those that no call with twins answers
 -- leave out what stands beside the place. And the parameters, which cross one by one.
+use Rattle.std.specs.Prelude.{Result}
+use Rattle.refusal.specs.declared.Refusal.{Refusal}
 use Rattle.std.specs.Prelude.{cond, List, ◌≡◌, ℕ, Float}
 use Rattle.refusal.specs.InNumbers.{InNumbers}
 use Rattle.axis.specs.declared.AxisCache.{AxisCache}
@@ -7,7 +9,6 @@ use Rattle.classify.specs.declared.EdgeParams.{EdgeParams}
 use Rattle.classify.specs.Call as edges
 use Rattle.quads.specs.Call as pairs
 use Rattle.filter.specs.declared.FilterParams.{FilterParams}
-use Rattle.filter.specs.declared.Filtered.{Filtered}
 use Rattle.filter.specs.Input.{Input}
 use Rattle.filter.specs.Call as filters
 use Rattle.fates.specs.declared.LabelParams.{LabelParams}
@@ -70,13 +71,13 @@ quads_told o = record { told = count_from (pairs.merged_told o.answer); quads = 
 
 -- what is told of the filters, and both lists after, are an outcome that the call allows
 pub record FilterTold (i : Input) (work kept : List ℕ) (told : Count) (work_after kept_after : List ℕ) : Type 0 where
-  pub answer : Filtered
+  pub answer : Result ℕ Refusal
   pub tells : told ≡ count_from (filters.filtered_told answer)
   pub allowed : filters.Allowed i work kept (record { answer = answer; work = work_after; kept = kept_after })
 
 -- what is told, and the three lists after, are an outcome that is allowed
 pub record CountsTold (allows : walk_call.Outcome → Type 0) (told : Counts) (work_after components_after entries_after : List ℕ) : Type 0 where
-  pub answer : Labelled
+  pub answer : Result Labelled Refusal
   pub tells : told ≡ counts_from (walk_call.labelled_told answer)
   pub allowed : allows (record { answer = answer; work = work_after; components = components_after; entries = entries_after })
 

@@ -12,20 +12,19 @@ use crate::{Apart, Cache, Count, Counts, Number, Verdict};
 use axis::Cached;
 use classify::Classified;
 use filter::Filtered;
-use measure::{Distance, Measured};
 use quads::Merged;
 use walk::Labelled;
 
-pub(crate) fn tell_number(answer: Measured) -> Number
+pub(crate) fn tell_number(answer: Result<f32, Refusal>) -> Number
     ensures { result ≡ number_from (measured_told answer) }
 {
     match answer {
-        Measured::Known(x) => Number {
+        Ok(x) => Number {
             refused: 0,
             place: 0,
             value: x,
         },
-        Measured::Refused(why) => Number {
+        Err(why) => Number {
             refused: refusal::number(why),
             place: refusal::place(why),
             value: 0.0,
@@ -33,12 +32,12 @@ pub(crate) fn tell_number(answer: Measured) -> Number
     }
 }
 
-pub(crate) fn tell_distance(answer: Distance) -> Apart
+pub(crate) fn tell_distance(answer: Option<f32>) -> Apart
     ensures { result ≡ apart_from (distance_told answer) }
 {
     match answer {
-        Distance::Known(x) => Apart { known: 1, value: x },
-        Distance::Missing => Apart {
+        Some(x) => Apart { known: 1, value: x },
+        None => Apart {
             known: 0,
             value: 0.0,
         },

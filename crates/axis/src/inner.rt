@@ -2,36 +2,34 @@
 ghost use Rattle.std.specs.Prelude.{◌≡◌, ◌+◌, ◌*◌, ◌<◌, length};
 ghost use Rattle.axis.specs.Cache.{rule_row, informative_of, spread_from, cache_of, cache_at};
 
-use crate::{AxisCache, Spread, SpreadRule};
-use refusal::{Gate, Refusal};
+use crate::{AxisCache, SpreadRule};
+use refusal::Refusal;
 
 // Row 18: there are the rules 1 and 2.
-pub fn rule_row(rule: SpreadRule) -> Gate
+pub fn rule_row(rule: SpreadRule) -> Result<(), Refusal>
     ensures { result ≡ rule_row rule }
 {
-    if rule.number == 1 {
-        return Gate::Open;
+    if rule.number == 1 || rule.number == 2 {
+        Ok(())
+    } else {
+        Err(Refusal::NoSuchRule)
     }
-    if rule.number == 2 {
-        return Gate::Open;
-    }
-    Gate::Shut(Refusal::NoSuchRule)
 }
 
-fn is_informative(spread: Spread, rule: SpreadRule) -> bool
+fn is_informative(spread: Option<f32>, rule: SpreadRule) -> bool
     ensures { result ≡ informative_of rule spread }
 {
     match spread {
-        Spread::Missing => rule.number == 1,
-        Spread::Known(x) => measure::inner::is_finite(x) && x < rule.limit,
+        None => rule.number == 1,
+        Some(x) => measure::inner::is_finite(x) && x < rule.limit,
     }
 }
 
 pub fn cache_of(
     angle0: f32,
-    spread0: Spread,
+    spread0: Option<f32>,
     angle1: f32,
-    spread1: Spread,
+    spread1: Option<f32>,
     rule: SpreadRule,
 ) -> AxisCache
     ensures { result ≡ cache_of rule angle0 spread0 angle1 spread1 }
@@ -45,13 +43,13 @@ pub fn cache_of(
 }
 
 // A spread of a lent list: the mark beside it is 0 for missing.
-pub fn spread_from(mark: u32, spread: f32) -> Spread
+pub fn spread_from(mark: u32, spread: f32) -> Option<f32>
     ensures { result ≡ spread_from mark spread }
 {
     if mark == 0 {
-        Spread::Missing
+        None
     } else {
-        Spread::Known(spread)
+        Some(spread)
     }
 }
 

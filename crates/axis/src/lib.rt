@@ -4,17 +4,9 @@
 ghost use Rattle.std.specs.Prelude.{◌≡◌};
 ghost use Rattle.axis.specs.Cache.{cache_call};
 
-use refusal::inner::in_order;
-use refusal::{Gate, Refusal};
+use refusal::Refusal;
 
 pub mod inner;
-
-// A spread is either missing or a number.
-#[derive(Drop)]
-pub enum Spread {
-    Missing,
-    Known(f32),
-}
 
 // What makes a spread informative: by which rule, 1 or 2, and below which limit.
 #[derive(Clone, Copy)]
@@ -32,26 +24,18 @@ pub struct AxisCache {
     pub informative1: bool,
 }
 
-#[derive(Drop)]
-pub enum Cached {
-    Known(AxisCache),
-    Refused(Refusal),
-}
-
 // The cache of one corner, from its two axes.
+#[tactic(auto, unfolding(crate::specs::Cache::cache_call))]
 pub fn axis_cache(
     angle0: f32,
-    spread0: Spread,
+    spread0: Option<f32>,
     angle1: f32,
-    spread1: Spread,
+    spread1: Option<f32>,
     rule: SpreadRule,
-) -> Cached
+) -> Result<AxisCache, Refusal>
     ensures { result ≡ cache_call rule angle0 spread0 angle1 spread1 }
 {
-    let limit = measure::inner::parameter_row(rule.limit, 4);
-    let gate = in_order(limit, inner::rule_row(rule));
-    match gate {
-        Gate::Open => Cached::Known(inner::cache_of(angle0, spread0, angle1, spread1, rule)),
-        Gate::Shut(why) => Cached::Refused(why),
-    }
+    measure::inner::parameter_row(rule.limit, 4)?;
+    inner::rule_row(rule)?;
+    Ok(inner::cache_of(angle0, spread0, angle1, spread1, rule))
 }

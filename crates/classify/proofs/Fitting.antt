@@ -1,6 +1,7 @@
 -- What a fit says: it is -1 exactly where the half-edge is not Grid; any other is the distance at one of the ends and neither end's is
 -- greater, it is at least 0, or -0, and strictly below the tolerance; a Grid half-edge is Grid by another tolerance exactly where its fit
 -- is below that one. Assumes nothing.
+use Rattle.std.specs.Prelude.{Option, Some, None}
 use mathlib.Core.Path.{◌≡◌, refl, sym, ap, ◌∙◌, subst}
 use mathlib.Core.Bool.{Bool, true, false, cond, ◌&&◌, not, and-false, false≢true}
 use mathlib.Core.Logic.{◌⊎◌, inl, inr}
@@ -9,8 +10,6 @@ use lib.Dec.{T, eqb}
 use lib.Ieee.{Float, nan, inf, fin, lt, le, eq, of_bits}
 use lib.Ieee.Scale.{finite}
 use Rattle.measure.specs.Float.{bits}
-use Rattle.measure.specs.declared.Distance.{Distance}
-use Rattle.measure.specs.declared.Distance.TheVariants as distance
 use Rattle.measure.proofs.Compared.{lt_once, lt_through}
 use Rattle.measure.proofs.DistanceBounds.{FromZero, distance_from_zero}
 use Rattle.axis.specs.declared.AxisCache.{AxisCache}
@@ -32,16 +31,16 @@ unfolding offered
 offered_from_zero true angle axis = distance_from_zero angle axis
 offered_from_zero false angle axis = tt
 
-nearer_from_zero : (a b : Distance) → FromZero a → FromZero b → FromZero (distance_in (nearer a b))
+nearer_from_zero : (a b : Option Float) → FromZero a → FromZero b → FromZero (distance_in (nearer a b))
 unfolding nearer
-nearer_from_zero (distance.Known d0) (distance.Known d1) p q = go (lt d1 d0)
+nearer_from_zero (Some d0) (Some d1) p q = go (lt d1 d0)
   where
     go : (t : Bool) → FromZero (distance_in (cond t (Found 1 d1) (Found 0 d0)))
     go true = q
     go false = p
-nearer_from_zero (distance.Known d0) distance.Missing p q = p
-nearer_from_zero distance.Missing (distance.Known d1) p q = q
-nearer_from_zero distance.Missing distance.Missing p q = tt
+nearer_from_zero (Some d0) None p q = p
+nearer_from_zero None (Some d1) p q = q
+nearer_from_zero None None p q = tt
 
 match_from_zero : (cache : AxisCache) (angle : Float) → FromZero (distance_in (match_of cache angle))
 unfolding match_of
@@ -52,7 +51,7 @@ match_from_zero cache angle =
 
 -- d is the distance at one of the ends
 abbrev pub AtAnEnd : Side → Float → Type 0
-AtAnEnd side d = (distance_in side.start ≡ distance.Known d) ⊎ (distance_in side.end ≡ distance.Known d)
+AtAnEnd side d = (distance_in side.start ≡ Some d) ⊎ (distance_in side.end ≡ Some d)
 
 -- what a fit that is not -1 is
 pub record Fitting (tolerance : Float) (side : Side) (fit : Float) : Type 0 where
@@ -68,22 +67,22 @@ lt_self x f = go (lt x x) refl
     go true e = lt_once x x f f e
     go false e = e
 
-known_same : (x y : Float) → distance.Known x ≡ distance.Known y → x ≡ y
+known_same : (x y : Float) → Some x ≡ Some y → x ≡ y
 known_same x y e = ap number e
   where
-    number : Distance → Float
-    number (distance.Known d) = d
-    number distance.Missing = x
+    number : Option Float → Float
+    number (Some d) = d
+    number None = x
 
 -- of two known distances below the tolerance
-module _ (tolerance : Float) (side : Side) (d0 d1 : Float) (at_start : distance_in side.start ≡ distance.Known d0) (at_end : distance_in side.end ≡ distance.Known d1)
-    (z0 : FromZero (distance.Known d0)) (z1 : FromZero (distance.Known d1)) (below0 : lt d0 tolerance ≡ true) (below1 : lt d1 tolerance ≡ true) where
+module _ (tolerance : Float) (side : Side) (d0 d1 : Float) (at_start : distance_in side.start ≡ Some d0) (at_end : distance_in side.end ≡ Some d1)
+    (z0 : FromZero (Some d0)) (z1 : FromZero (Some d1)) (below0 : lt d0 tolerance ≡ true) (below1 : lt d1 tolerance ≡ true) where
   -- what no end's distance is above, if neither of the two is
   above_none : (x : Float) → lt x d0 ≡ false → lt x d1 ≡ false → (d : Float) → AtAnEnd side d → lt x d ≡ false
   above_none x p q d (inl e) = subst (λ (y : Float). lt x y ≡ false) (known_same d0 d (sym at_start ∙ e)) p
   above_none x p q d (inr e) = subst (λ (y : Float). lt x y ≡ false) (known_same d1 d (sym at_end ∙ e)) q
 
-  greater_fits : Fitting tolerance side (greater_of (distance.Known d0) (distance.Known d1))
+  greater_fits : Fitting tolerance side (greater_of (Some d0) (Some d1))
   unfolding greater_of
   greater_fits = go (lt d0 d1) refl
     where
@@ -97,7 +96,7 @@ is_grid Spurious = false
 
 no_end : (slot : ℕ) (d tolerance : Float) → is_grid (judged_by tolerance (Found slot d) Missing) ≡ false
 unfolding judged_by is_below is_grid
-no_end slot d tolerance = ap (λ (b : Bool). is_grid (cond b (Grid slot 0 (greater_of (distance.Known d) distance.Missing)) Spurious)) (and-false (lt d tolerance))
+no_end slot d tolerance = ap (λ (b : Bool). is_grid (cond b (Grid slot 0 (greater_of (Some d) None)) Spurious)) (and-false (lt d tolerance))
 
 -- a side that is judged Grid has both distances, each below the tolerance
 grid_fits : (tolerance : Float) (side : Side) (start end : Match) → side.start ≡ start → side.end ≡ end → FromZero (distance_in start) → FromZero (distance_in end) → is_grid (judged_by tolerance start end) ≡ true
@@ -105,7 +104,7 @@ grid_fits : (tolerance : Float) (side : Side) (start end : Match) → side.start
 unfolding judged_by is_below is_grid
 grid_fits tolerance side (Found s0 d0) (Found s1 d1) p q z0 z1 g = go (lt d0 tolerance) refl (lt d1 tolerance) refl g
   where
-    go : (a : Bool) → lt d0 tolerance ≡ a → (b : Bool) → lt d1 tolerance ≡ b → is_grid (cond (a && b) (Grid s0 s1 (greater_of (distance.Known d0) (distance.Known d1))) Spurious) ≡ true → Fitting tolerance side (greater_of (distance.Known d0) (distance.Known d1))
+    go : (a : Bool) → lt d0 tolerance ≡ a → (b : Bool) → lt d1 tolerance ≡ b → is_grid (cond (a && b) (Grid s0 s1 (greater_of (Some d0) (Some d1))) Spurious) ≡ true → Fitting tolerance side (greater_of (Some d0) (Some d1))
     go true e true f h = greater_fits tolerance side d0 d1 (ap distance_in p) (ap distance_in q) z0 z1 e f
     go true e false f h = absurd (false≢true h)
     go false e b f h = absurd (false≢true h)
@@ -126,7 +125,7 @@ not_below_lem (fin s m e) (fin u n d) (inf w) fx fy h k = k
 not_below_lem (fin s m e) (fin u n d) (fin w p q) fx fy h k = lt_through (fin s m e) (fin u n d) (fin w p q) tt tt tt h k
 
 -- the greater of two is below t exactly where both are
-both_below : (d0 d1 t : Float) → T (finite d0) → T (finite d1) → (lt d0 t && lt d1 t) ≡ lt (greater_of (distance.Known d0) (distance.Known d1)) t
+both_below : (d0 d1 t : Float) → T (finite d0) → T (finite d1) → (lt d0 t && lt d1 t) ≡ lt (greater_of (Some d0) (Some d1)) t
 unfolding greater_of
 both_below d0 d1 t f0 f1 = go (lt d0 d1) refl
   where
@@ -148,7 +147,7 @@ another_grid : (tolerance t : Float) (start end : Match) → FromZero (distance_
 unfolding judged_by is_below is_grid
 another_grid tolerance t (Found s0 d0) (Found s1 d1) z0 z1 g = go (lt d0 t && lt d1 t) ∙ both_below d0 d1 t z0.0 z1.0
   where
-    go : (b : Bool) → is_grid (cond b (Grid s0 s1 (greater_of (distance.Known d0) (distance.Known d1))) Spurious) ≡ b
+    go : (b : Bool) → is_grid (cond b (Grid s0 s1 (greater_of (Some d0) (Some d1))) Spurious) ≡ b
     go true = refl
     go false = refl
 another_grid tolerance t (Found s0 d0) Missing z0 z1 g = absurd (false≢true (sym (no_end s0 d0 tolerance) ∙ g))

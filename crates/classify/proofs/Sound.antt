@@ -4,7 +4,7 @@ use mathlib.Core.List.{List}
 use Prim.Native.Nat.{ℕ, ◌*◌, ◌%◌, ◌≤◌}
 use lib.Ieee.{Float}
 use lib.ListN.{length}
-use Rattle.refusal.specs.declared.Gate.TheVariants.{Open}
+use Rattle.std.specs.Prelude.{Ok}
 use Rattle.refusal.specs.Rows.{◌then◌}
 use Rattle.refusal.proofs.Rows.{open_both}
 use Rattle.mesh.specs.Positions.{positions_row}
@@ -29,7 +29,7 @@ pub record Paired (x y angles marks spreads triangles classes : ℕ) : Type 0 wh
   pub corners : x ≤ 4096
   pub edges : triangles ≤ 24576
 
-pub lengths_open : (x y a m s t c : ℕ) → lengths_gate x y a m s t c ≡ Open → Paired x y a m s t c
+pub lengths_open : (x y a m s t c : ℕ) → lengths_gate x y a m s t c ≡ Ok tt → Paired x y a m s t c
 unfolding lengths_gate
 lengths_open x y a m s t c e =
     let e1 = open_both _ _ e in
@@ -52,7 +52,7 @@ lengths_open x y a m s t c e =
 
 -- ---- rows 4 and 5
 
-values_open : (xs ys : List Float) (triangles : List ℕ) (p : EdgeParams) → values_gate xs ys triangles p ≡ Open → (positions_row xs ys ≡ Open) × (corners_row (length xs) triangles ≡ Open)
+values_open : (xs ys : List Float) (triangles : List ℕ) (p : EdgeParams) → values_gate xs ys triangles p ≡ Ok tt → (positions_row xs ys ≡ Ok tt) × (corners_row (length xs) triangles ≡ Ok tt)
 unfolding values_gate
 values_open xs ys triangles p e =
     let v1 = open_both (parameter_row p.tolerance 0) _ e in
@@ -63,7 +63,7 @@ values_open xs ys triangles p e =
 
 -- ---- all rows
 
-gate_sound : (i : Input) (classes : ℕ) → gate_of i classes ≡ Open → Sound i × (classes ≡ length i.triangles)
+gate_sound : (i : Input) (classes : ℕ) → gate_of i classes ≡ Ok tt → Sound i × (classes ≡ length i.triangles)
 unfolding gate_of
 gate_sound i classes e =
     let both = open_both _ _ e in
@@ -83,7 +83,7 @@ gate_sound i classes e =
       l.classes_are,
     )
 
-pub fitted_sound : (i : Input) (classes fits : ℕ) → fitted_gate i classes fits ≡ Open → Sound i × (classes ≡ length i.triangles) × (fits ≡ length i.triangles)
+pub fitted_sound : (i : Input) (classes fits : ℕ) → fitted_gate i classes fits ≡ Ok tt → Sound i × (classes ≡ length i.triangles) × (fits ≡ length i.triangles)
 unfolding fitted_gate
 fitted_sound i classes fits e =
     let both = open_both _ _ e in

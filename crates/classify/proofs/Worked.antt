@@ -1,15 +1,15 @@
 -- Document 01's frame computed by the definitions: its classes and fits, a distance equal to the tolerance, and the other spread rule; a
 -- third is refused. Assumes nothing.
+use Rattle.std.specs.Prelude.{Some}
 use mathlib.Core.Path.{◌≡◌, refl}
 use mathlib.Core.List.{[], ◌∷◌}
 use Prim.Native.Nat.{ℕ}
 use lib.Ieee.{Float, neg, of_bits, round, add, sub, mul, div, rem, lt, eq, le, is_nan}
 use Rattle.words.specs.Listing.{listing}
-use Rattle.refusal.specs.declared.Gate.TheVariants.{Shut}
+use Rattle.std.specs.Prelude.{Err}
 use Rattle.refusal.specs.declared.Refusal.TheVariants.{NoSuchRule, Unpaired}
 use Rattle.measure.specs.Float.{bits}
 use Rattle.measure.specs.Angle.{series_of, part_of, ratio_of, base_of, octant_of, across_of, below_of, angle_rule}
-use Rattle.measure.specs.declared.Distance.TheVariants.{Known}
 use Rattle.measure.specs.Distance.{lifted, folded, apart, number_or_none, distance_of}
 use Rattle.axis.specs.Cache.{informative_of, spread_from, cache_at}
 use Rattle.mesh.specs.HalfEdge.{next_of}
@@ -52,7 +52,7 @@ unfolding frame neg of_bits round add sub mul div rem lt eq le listing series_of
 by_rule_two = refl
 
 -- rule 3 is refused before a position that is NaN
-pub no_third : values_gate (bits 0x7FC00000 ∷ []) (bits 0 ∷ []) [] (frame 3 (bits 0x3E800000)).params ≡ Shut NoSuchRule
+pub no_third : values_gate (bits 0x7FC00000 ∷ []) (bits 0 ∷ []) [] (frame 3 (bits 0x3E800000)).params ≡ Err NoSuchRule
 unfolding frame of_bits is_nan values_gate
 no_third = refl
 
@@ -67,15 +67,15 @@ unfolding frame neg of_bits round add sub mul div rem lt eq le listing series_of
 fits_above_the_distance = refl
 
 -- of two distances the greater, at either end; of 0 and -0 the start's
-pub greater_of_two : (greater_of (Known (bits 0x3E800000)) (Known (bits 0x3F000000)) ≡ bits 0x3F000000) × (greater_of (Known (bits 0x3F000000)) (Known (bits 0x3E800000)) ≡ bits 0x3F000000)
+pub greater_of_two : (greater_of (Some (bits 0x3E800000)) (Some (bits 0x3F000000)) ≡ bits 0x3F000000) × (greater_of (Some (bits 0x3F000000)) (Some (bits 0x3E800000)) ≡ bits 0x3F000000)
 unfolding of_bits lt greater_of
 greater_of_two = (refl, refl)
 
-pub start_of_zeros : (greater_of (Known (bits 0)) (Known (bits 0x80000000)) ≡ bits 0) × (greater_of (Known (bits 0x80000000)) (Known (bits 0)) ≡ bits 0x80000000)
+pub start_of_zeros : (greater_of (Some (bits 0)) (Some (bits 0x80000000)) ≡ bits 0) × (greater_of (Some (bits 0x80000000)) (Some (bits 0)) ≡ bits 0x80000000)
 unfolding of_bits lt greater_of
 start_of_zeros = (refl, refl)
 
 -- a fit list that is one short, or one long, is refused by row 1, before a tolerance that is NaN
-pub fits_unpaired : (fitted_gate (frame 1 (bits 0x7FC00000)) 6 5 ≡ Shut Unpaired) × (fitted_gate (frame 1 (bits 0x7FC00000)) 6 7 ≡ Shut Unpaired)
+pub fits_unpaired : (fitted_gate (frame 1 (bits 0x7FC00000)) 6 5 ≡ Err Unpaired) × (fitted_gate (frame 1 (bits 0x7FC00000)) 6 7 ≡ Err Unpaired)
 unfolding frame fitted_gate
 fits_unpaired = (refl, refl)

@@ -1,17 +1,16 @@
 -- The call `classify_all_edges` whole: rows 1 to 6 in order, 18 behind 3, or every half-edge's class and fit in the two lists.
+use Rattle.std.specs.Prelude.{Result}
+use Rattle.refusal.specs.declared.Refusal.{Refusal}
 use Rattle.std.specs.Prelude.{List, ℕ, Float, length}
-use Rattle.refusal.specs.declared.Gate.{Gate}
-use Rattle.refusal.specs.declared.Gate.TheVariants.{Open, Shut}
+use Rattle.std.specs.Prelude.{Ok, Err}
 use Rattle.refusal.specs.InNumbers.{InNumbers, gives, refuses}
-use Rattle.refusal.specs.Rows.{◌then◌}
+use Rattle.refusal.specs.Rows.{Gate, ◌then◌}
 use Rattle.measure.specs.Parameter.{parameter_row}
 use Rattle.axis.specs.Cache.{rule_row}
 use Rattle.mesh.specs.Lists.{paired_row, doubled_row, whole_row, limit_row, most_corners, most_half_edges}
 use Rattle.mesh.specs.Positions.{positions_row}
 use Rattle.mesh.specs.Cells.{corners_row, twice_row}
 use Rattle.classify.specs.declared.EdgeParams.{EdgeParams}
-use Rattle.classify.specs.declared.Classified.{Classified}
-use Rattle.classify.specs.declared.Classified.TheVariants.{Done, Refused}
 use Rattle.classify.specs.Classes.{Input, classes_of}
 use Rattle.classify.specs.Fits.{fits_of}
 
@@ -38,19 +37,19 @@ unfoldable pub fitted_gate : Input → ℕ → ℕ → Gate
 fitted_gate i classes fits = paired_row fits (length i.triangles) then gate_of i classes
 
 -- the answer in 01's numbers
-abbrev pub classified_told : Classified → InNumbers Unit
-classified_told Done = gives tt
-classified_told (Refused why) = refuses tt why
+abbrev pub classified_told : Result Unit Refusal → InNumbers Unit
+classified_told (Ok _) = gives tt
+classified_told (Err why) = refuses tt why
 
 -- the answer, and the two lists after the call
 pub record Outcome : Type 0 where
-  pub answer : Classified
+  pub answer : Result Unit Refusal
   pub classes : List ℕ
   pub fits : List Float
 
 abbrev pub outcome_by : Gate → Input → List ℕ → List Float → Outcome
-outcome_by Open i classes fits = record { answer = Done; classes = classes_of i; fits = fits_of i }
-outcome_by (Shut why) i classes fits = record { answer = Refused why; classes = classes; fits = fits }
+outcome_by (Ok _) i classes fits = record { answer = Ok tt; classes = classes_of i; fits = fits_of i }
+outcome_by (Err why) i classes fits = record { answer = Err why; classes = classes; fits = fits }
 
 unfoldable pub call_of : Input → List ℕ → List Float → Outcome
 call_of i classes fits = outcome_by (fitted_gate i (length classes) (length fits)) i classes fits

@@ -1,11 +1,10 @@
 -- Document 01, "Classes", at one half-edge: the nearest informative axis at each end, and whether the half-edge is Grid; document 02, T-06:
 -- the greater of its distances.
+use Rattle.std.specs.Prelude.{Option, Some, None}
 use Rattle.std.specs.Prelude.{Bool, false, cond, ◌&&◌, not, ℕ, zero, suc, eqb, Float}
 use Rattle.std.specs.Float.Ieee as Ieee
 use Rattle.measure.specs.Float.{bits}
 use Rattle.measure.specs.Distance.{distance_of}
-use Rattle.measure.specs.declared.Distance.{Distance}
-use Rattle.measure.specs.declared.Distance.TheVariants as distance
 use Rattle.axis.specs.declared.AxisCache.{AxisCache}
 use Rattle.classify.specs.declared.Match.{Match}
 use Rattle.classify.specs.declared.Match.TheVariants.{Missing, Found}
@@ -16,15 +15,15 @@ use Rattle.classify.specs.declared.Class.{Class}
 use Rattle.classify.specs.declared.Class.TheVariants as class
 
 -- the distance of an informative axis; any other is skipped
-unfoldable pub offered : Bool → Float → Float → Distance
-offered informative angle axis = cond informative (distance_of angle axis) distance.Missing
+unfoldable pub offered : Bool → Float → Float → Option Float
+offered informative angle axis = cond informative (distance_of angle axis) None
 
 -- the nearest of two slots, slot 0 on equal distance; a missing distance is skipped
-unfoldable pub nearer : Distance → Distance → Match
-nearer (distance.Known d0) (distance.Known d1) = cond (Ieee.lt d1 d0) (Found 1 d1) (Found 0 d0)
-nearer (distance.Known d0) distance.Missing = Found 0 d0
-nearer distance.Missing (distance.Known d1) = Found 1 d1
-nearer distance.Missing distance.Missing = Missing
+unfoldable pub nearer : Option Float → Option Float → Match
+nearer (Some d0) (Some d1) = cond (Ieee.lt d1 d0) (Found 1 d1) (Found 0 d0)
+nearer (Some d0) None = Found 0 d0
+nearer None (Some d1) = Found 1 d1
+nearer None None = Missing
 
 unfoldable pub match_of : AxisCache → Float → Match
 match_of cache angle = nearer (offered cache.informative0 angle cache.angle0) (offered cache.informative1 angle cache.angle1)
@@ -38,23 +37,23 @@ abbrev pub slot_in : Match → ℕ
 slot_in (Found slot d) = slot
 slot_in Missing = 0
 
-abbrev pub distance_in : Match → Distance
-distance_in (Found slot d) = distance.Known d
-distance_in Missing = distance.Missing
+abbrev pub distance_in : Match → Option Float
+distance_in (Found slot d) = Some d
+distance_in Missing = None
 
-unfoldable pub is_below : Float → Distance → Bool
-is_below tolerance (distance.Known d) = Ieee.lt d tolerance
-is_below tolerance distance.Missing = false
+unfoldable pub is_below : Float → Option Float → Bool
+is_below tolerance (Some d) = Ieee.lt d tolerance
+is_below tolerance None = false
 
 -- document 02, T-06: what a half-edge that is not Grid reports, -1
 abbrev pub no_fit : Float
 no_fit = bits 0xBF800000
 
 -- the greater of the start's distance and the end's, the start's where neither is greater; where one is missing the half-edge is not Grid
-unfoldable pub greater_of : Distance → Distance → Float
-greater_of (distance.Known start) (distance.Known end) = cond (Ieee.lt start end) end start
-greater_of (distance.Known start) distance.Missing = no_fit
-greater_of distance.Missing end = no_fit
+unfoldable pub greater_of : Option Float → Option Float → Float
+greater_of (Some start) (Some end) = cond (Ieee.lt start end) end start
+greater_of (Some start) None = no_fit
+greater_of None end = no_fit
 
 -- Grid, with the slots and the greater distance, when both ends have a distance strictly below the tolerance; a missing match at either end
 -- is Spurious

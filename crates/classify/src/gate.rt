@@ -13,10 +13,10 @@ use mesh::inner::lists::{
     MOST_CORNERS, MOST_HALF_EDGES, doubled_row, limit_row, paired_row, whole_row,
 };
 use mesh::inner::positions::positions_row;
-use refusal::Gate;
-use refusal::inner::in_order;
+use refusal::Refusal;
 
 // Rows 1 and 2, without the fits.
+#[tactic(auto, unfolding(crate::specs::Call::lengths_gate))]
 fn lengths_gate(
     x: usize,
     y: usize,
@@ -25,39 +25,34 @@ fn lengths_gate(
     spreads: usize,
     triangles: usize,
     classes: usize,
-) -> Gate
+) -> Result<(), Refusal>
     ensures { result ≡ lengths_gate x y angles marks spreads triangles classes }
 {
-    let limits = in_order(
-        limit_row(x, MOST_CORNERS),
-        limit_row(triangles, MOST_HALF_EDGES),
-    );
-    let edges = in_order(
-        whole_row(triangles, 3),
-        in_order(paired_row(classes, triangles), limits),
-    );
-    let slots = in_order(
-        doubled_row(marks, x),
-        in_order(doubled_row(spreads, x), edges),
-    );
-    in_order(paired_row(y, x), in_order(doubled_row(angles, x), slots))
+    paired_row(y, x)?;
+    doubled_row(angles, x)?;
+    doubled_row(marks, x)?;
+    doubled_row(spreads, x)?;
+    whole_row(triangles, 3)?;
+    paired_row(classes, triangles)?;
+    limit_row(x, MOST_CORNERS)?;
+    limit_row(triangles, MOST_HALF_EDGES)
 }
 
 // Rows 3, 18 and 4 to 6, for lists that rows 1 and 2 let through.
-fn values_gate(x: &[f32], y: &[f32], triangles: &[u32], params: EdgeParams) -> Gate
+#[tactic(auto, unfolding(crate::specs::Call::values_gate))]
+fn values_gate(x: &[f32], y: &[f32], triangles: &[u32], params: EdgeParams) -> Result<(), Refusal>
     requires { (length y.now ≡ length x.now) × (length x.now ≤ most_corners) × (length triangles.now ≤ most_half_edges) }
     ensures { result ≡ values_gate x.now y.now triangles.now params }
 {
-    let rule = params.spread;
-    let corners = in_order(corners_row(triangles, x.len()), twice_row(triangles, 3));
-    let places = in_order(positions_row(x, y), corners);
-    let ruled = in_order(rule_row(rule), places);
-    in_order(
-        parameter_row(params.tolerance, 0),
-        in_order(parameter_row(rule.limit, 4), ruled),
-    )
+    parameter_row(params.tolerance, 0)?;
+    parameter_row(params.spread.limit, 4)?;
+    rule_row(params.spread)?;
+    positions_row(x, y)?;
+    corners_row(triangles, x.len())?;
+    twice_row(triangles, 3)
 }
 
+#[tactic(auto, unfolding(crate::specs::Call::gate_of))]
 fn judge(
     x: &[f32],
     y: &[f32],
@@ -67,10 +62,10 @@ fn judge(
     triangles: &[u32],
     params: EdgeParams,
     classes: usize,
-) -> Gate
+) -> Result<(), Refusal>
     ensures { result ≡ gate_of (given x.entry y.entry angles.entry marks.entry spreads.entry triangles.entry params) classes }
 {
-    let lengths = lengths_gate(
+    lengths_gate(
         x.len(),
         y.len(),
         angles.len(),
@@ -78,14 +73,12 @@ fn judge(
         spreads.len(),
         triangles.len(),
         classes,
-    );
-    match lengths {
-        Gate::Open => values_gate(x, y, triangles, params),
-        Gate::Shut(why) => Gate::Shut(why),
-    }
+    )?;
+    values_gate(x, y, triangles, params)
 }
 
 // All rows, for lists of classes and of fits of those lengths.
+#[tactic(auto, unfolding(crate::specs::Call::fitted_gate))]
 pub(crate) fn judge_fitted(
     x: &[f32],
     y: &[f32],
@@ -96,9 +89,9 @@ pub(crate) fn judge_fitted(
     params: EdgeParams,
     classes: usize,
     fits: usize,
-) -> Gate
+) -> Result<(), Refusal>
     ensures { result ≡ fitted_gate (given x.entry y.entry angles.entry marks.entry spreads.entry triangles.entry params) classes fits }
 {
-    let others = judge(x, y, angles, marks, spreads, triangles, params, classes);
-    in_order(paired_row(fits, triangles.len()), others)
+    paired_row(fits, triangles.len())?;
+    judge(x, y, angles, marks, spreads, triangles, params, classes)
 }

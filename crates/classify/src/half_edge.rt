@@ -5,24 +5,23 @@ ghost use Rattle.classify.specs.Fits.{fit_of};
 
 use crate::{Class, Judged, Match, Side};
 use axis::AxisCache;
-use measure::Distance;
 
 // The distance of an axis that counts only where it is informative.
-fn offer(informative: bool, angle: f32, axis: f32) -> Distance
+fn offer(informative: bool, angle: f32, axis: f32) -> Option<f32>
     ensures { result ≡ offered informative angle axis }
 {
     if informative {
         measure::axis_distance(angle, axis)
     } else {
-        Distance::Missing
+        None
     }
 }
 
 // Slot 0 at d0 against slot 1.
-fn against(d0: f32, slot1: Distance) -> Match
-    ensures { result ≡ nearer (Distance.Known d0) slot1 }
+fn against(d0: f32, slot1: Option<f32>) -> Match
+    ensures { result ≡ nearer (Some d0) slot1 }
 {
-    let Distance::Known(d1) = slot1 else {
+    let Some(d1) = slot1 else {
         return Match::Found(0, d0);
     };
     if d1 < d0 {
@@ -32,11 +31,11 @@ fn against(d0: f32, slot1: Distance) -> Match
     }
 }
 
-fn nearest(slot0: Distance, slot1: Distance) -> Match
+fn nearest(slot0: Option<f32>, slot1: Option<f32>) -> Match
     ensures { result ≡ nearer slot0 slot1 }
 {
-    let Distance::Known(d0) = slot0 else {
-        let Distance::Known(d1) = slot1 else {
+    let Some(d0) = slot0 else {
+        let Some(d1) = slot1 else {
             return Match::Missing;
         };
         return Match::Found(1, d1);
@@ -63,7 +62,7 @@ pub(crate) fn side_of(start: AxisCache, end: AxisCache, angle: f32) -> Side
 
 // The start's where neither is greater, as of 0 and -0.
 fn greater(start: f32, end: f32) -> f32
-    ensures { result ≡ greater_of (Distance.Known start) (Distance.Known end) }
+    ensures { result ≡ greater_of (Some start) (Some end) }
 {
     if start < end { end } else { start }
 }

@@ -10,7 +10,7 @@ ghost use Rattle.classify.specs.Call.{Outcome, call_of};
 use axis::SpreadRule;
 use gate::judge_fitted;
 use inner::write_triangles;
-use refusal::{Gate, Refusal};
+use refusal::Refusal;
 
 mod gate;
 mod half_edge;
@@ -82,12 +82,6 @@ pub struct EdgeParams {
     pub spread: SpreadRule,
 }
 
-#[derive(Drop)]
-pub enum Classified {
-    Done,
-    Refused(Refusal),
-}
-
 // Writes the class of every half-edge, 0 Spurious, 1 Grid, 2 Diagonal, and its fit: the greater of the distances at the ends of a Grid
 // one, the start's where neither is greater, and -1 of any other.
 pub fn classify_all_edges(
@@ -100,11 +94,11 @@ pub fn classify_all_edges(
     params: EdgeParams,
     classes: &mut [u32],
     fits: &mut [f32],
-) -> Classified
+) -> Result<(), Refusal>
     ensures { ◌≡◌ {A = Outcome} (record { answer = result; classes = classes.new; fits = fits.new })
         (call_of (given x.entry y.entry angles.entry marks.entry spreads.entry triangles.entry params) classes.old fits.old) }
 {
-    let gate = judge_fitted(
+    judge_fitted(
         x,
         y,
         angles,
@@ -114,13 +108,9 @@ pub fn classify_all_edges(
         params,
         classes.len(),
         fits.len(),
+    )?;
+    write_triangles(
+        x, y, angles, marks, spreads, triangles, params, classes, fits,
     );
-    match gate {
-        Gate::Shut(why) => Classified::Refused(why),
-        Gate::Open => {
-            let edges = triangles;
-            write_triangles(x, y, angles, marks, spreads, edges, params, classes, fits);
-            Classified::Done
-        }
-    }
+    Ok(())
 }

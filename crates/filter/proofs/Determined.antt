@@ -1,5 +1,6 @@
 -- The call has one outcome (`determined`): the rows decide, and an input has one list of marks (`marks_determined`), since its groups and
 -- their medians are the only ones. Assumes nothing.
+use Rattle.std.specs.Prelude.{Err}
 use mathlib.Core.Path.{◌≡◌, refl, sym, ap, ◌∙◌, subst}
 use mathlib.Core.Bool.{Bool, true, false, not, ◌&&◌, false≢true}
 use mathlib.Core.List.{List}
@@ -14,7 +15,6 @@ use Rattle.words.proofs.Listing.{length_listing, get_d_listing, is_listing}
 use Rattle.cells.specs.Groups.{Groups}
 use Rattle.cells.proofs.Groups.{one_answer}
 use Rattle.quads.specs.Call.{room_row}
-use Rattle.filter.specs.declared.Filtered.TheVariants.{Refused}
 use Rattle.filter.specs.Input.{Input, quad_count, side_length}
 use Rattle.filter.specs.Topology.{crowded}
 use Rattle.filter.specs.Opposing.{skewed}
@@ -73,7 +73,7 @@ marks_determined i m n (sized e group G median M) (sized f other H another N) =
 
 pub determined : (i : Input) (work kept : List ℕ) (o p : Outcome) → Allowed i work kept o → Allowed i work kept p → o ≡ p
 determined i work kept o p (refused why e) (refused other f) =
-    ap (λ (w : Refusal). record { answer = Refused w; work = work; kept = kept }) (one_why (entry_gate i (length work)) why other e f)
+    ap (λ (w : Refusal). record { answer = Err w; work = work; kept = kept }) (one_why (entry_gate i (length work)) why other e f)
 determined i work kept o p (refused why e) (judged f marks M) = absurd (shut_open (entry_gate i (length work)) why e f)
 determined i work kept o p (judged e marks M) (refused why f) = absurd (shut_open (entry_gate i (length work)) why f e)
 determined i work kept o p (judged e marks M) (judged f others N) =

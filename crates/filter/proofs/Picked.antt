@@ -15,7 +15,7 @@ use lib.Seq.{get_or-append_seam}
 use Rattle.words.proofs.Rank.{rec_on}
 use Rattle.words.proofs.Listing.{each_more}
 use Rattle.quads.specs.declared.Quad.{Quad}
-use Rattle.refusal.specs.declared.Gate.TheVariants.{Open}
+use Rattle.std.specs.Prelude.{Ok}
 use Rattle.quads.specs.Call.{words_of, gate_of}
 use Rattle.quads.specs.Merge as quads
 use Rattle.quads.specs.inner.Merging as quads_inner
@@ -157,6 +157,6 @@ pub kept_different : (m : quads.Input) → quads_inner.Sound m → (i : Input) (
 kept_different m sound i marks given q k = all_different m sound q (kept_from i marks (quads.merged_of m) given q k)
 
 -- merging's rows are enough
-pub kept_ordered : (m : quads.Input) → gate_of m ≡ Open → (i : Input) (marks : List ℕ) → i.quads ≡ words_of (quads.merged_of m)
+pub kept_ordered : (m : quads.Input) → gate_of m ≡ Ok tt → (i : Input) (marks : List ℕ) → i.quads ≡ words_of (quads.merged_of m)
     → (q : Quad) → Memᴰ q (kept_of i marks) → Arranged m q
 kept_ordered m through i marks given q k = open_ordered m through q (kept_from i marks (quads.merged_of m) given q k)

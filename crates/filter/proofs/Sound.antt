@@ -6,7 +6,7 @@ use Prim.Native.Nat.{ℕ, ◌/◌, ◌%◌, ◌≤◌}
 use native.Mathlib.Omega.{arith}
 use lib.Ieee.{Float}
 use lib.ListN.{length}
-use Rattle.refusal.specs.declared.Gate.TheVariants.{Open}
+use Rattle.std.specs.Prelude.{Ok}
 use Rattle.refusal.specs.Rows.{◌then◌}
 use Rattle.refusal.proofs.Rows.{open_both}
 use Rattle.mesh.specs.Lists.{paired_row, whole_row, limit_row, most_corners, most_quads, work_row, quad_words}
@@ -24,7 +24,7 @@ pub record Paired (x y quads : ℕ) : Type 0 where
   pub corners : x ≤ most_corners
   pub few : quads / 4 ≤ most_quads
 
-pub lengths_open : (x y quads : ℕ) → lengths_gate x y quads ≡ Open → Paired x y quads
+pub lengths_open : (x y quads : ℕ) → lengths_gate x y quads ≡ Ok tt → Paired x y quads
 unfolding lengths_gate
 lengths_open x y quads e =
     let e1 = open_both (paired_row y x) _ e in
@@ -38,33 +38,33 @@ lengths_open x y quads e =
     }
 
 -- rows 1 and 2 let through what rows 1 to 6 do
-pub gate_paired : (i : Input) → gate_of i ≡ Open → Paired (length i.xs) (length i.ys) (length i.quads)
+pub gate_paired : (i : Input) → gate_of i ≡ Ok tt → Paired (length i.xs) (length i.ys) (length i.quads)
 unfolding gate_of
 gate_paired i e = lengths_open _ _ _ (open_both (lengths_gate (length i.xs) (length i.ys) (length i.quads)) (params_gate i.params then values_gate i.xs i.ys i.quads) e).0
 
 -- rows 4 to 6
 record Values (xs ys : List Float) (quads : List ℕ) : Type 0 where
-  positions : positions_row xs ys ≡ Open
-  corners : corners_row (length xs) quads ≡ Open
-  twice : twice_row 4 quads ≡ Open
+  positions : positions_row xs ys ≡ Ok tt
+  corners : corners_row (length xs) quads ≡ Ok tt
+  twice : twice_row 4 quads ≡ Ok tt
 
-values_open : (xs ys : List Float) (quads : List ℕ) → values_gate xs ys quads ≡ Open → Values xs ys quads
+values_open : (xs ys : List Float) (quads : List ℕ) → values_gate xs ys quads ≡ Ok tt → Values xs ys quads
 unfolding values_gate
 values_open xs ys quads e =
     let v1 = open_both (positions_row xs ys) (corners_row (length xs) quads then twice_row 4 quads) e in
     let v2 = open_both (corners_row (length xs) quads) (twice_row 4 quads) v1.1 in
     record { positions = v1.0; corners = v2.0; twice = v2.1 }
 
-gate_values : (i : Input) → gate_of i ≡ Open → Values i.xs i.ys i.quads
+gate_values : (i : Input) → gate_of i ≡ Ok tt → Values i.xs i.ys i.quads
 unfolding gate_of
 gate_values i e =
     let rows = open_both (lengths_gate (length i.xs) (length i.ys) (length i.quads)) (params_gate i.params then values_gate i.xs i.ys i.quads) e in
     values_open i.xs i.ys i.quads (open_both (params_gate i.params) (values_gate i.xs i.ys i.quads) rows.1).1
 
-pub gate_standing : (i : Input) → gate_of i ≡ Open → Standing i.xs i.ys
+pub gate_standing : (i : Input) → gate_of i ≡ Ok tt → Standing i.xs i.ys
 gate_standing i e = record { lengths = (gate_paired i e).y_is; placed = positions_open i.xs i.ys (gate_values i e).positions }
 
-pub gate_sound : (i : Input) → gate_of i ≡ Open → Sound i
+pub gate_sound : (i : Input) → gate_of i ≡ Ok tt → Sound i
 gate_sound i e =
     let l = gate_paired i e in
     let v = gate_values i e in
@@ -77,7 +77,7 @@ gate_sound i e =
       differ = twice_open 4 i.quads v.twice;
     }
 
-pub entry_sound : (i : Input) (words : ℕ) → entry_gate i words ≡ Open → Sound i × (quad_words (quad_count i) (length i.xs) ≤ words)
+pub entry_sound : (i : Input) (words : ℕ) → entry_gate i words ≡ Ok tt → Sound i × (quad_words (quad_count i) (length i.xs) ≤ words)
 unfolding entry_gate
 entry_sound i words e =
     let both = open_both (gate_of i) (work_row words (quad_words (quad_count i) (length i.xs))) e in

@@ -1,11 +1,11 @@
 -- The call `filter_quads` whole: rows 1 to 6 and 8 in order, row 9, or the quads kept at the front of their list. The workspace is all
 -- zero after row 9 and on success, and untouched by every other refusal.
+use Rattle.std.specs.Prelude.{Result}
 use Rattle.std.specs.Prelude.{◌≡◌, List, ◌++◌, ℕ, ◌*◌, ◌/◌, Float, length, drop, replicate}
-use Rattle.refusal.specs.declared.Gate.{Gate}
-use Rattle.refusal.specs.declared.Gate.TheVariants.{Open, Shut}
+use Rattle.std.specs.Prelude.{Ok, Err}
 use Rattle.refusal.specs.declared.Refusal.{Refusal}
 use Rattle.refusal.specs.InNumbers.{InNumbers, gives, refuses}
-use Rattle.refusal.specs.Rows.{◌then◌}
+use Rattle.refusal.specs.Rows.{Gate, ◌then◌}
 use Rattle.measure.specs.Parameter.{parameter_row}
 use Rattle.mesh.specs.Lists.{paired_row, whole_row, limit_row, most_corners, most_quads, work_row, quad_words}
 use Rattle.mesh.specs.Positions.{positions_row}
@@ -13,8 +13,6 @@ use Rattle.mesh.specs.Cells.{corners_row, twice_row}
 use Rattle.quads.specs.declared.Quad.{Quad}
 use Rattle.quads.specs.Call.{room_row, words_of}
 use Rattle.filter.specs.declared.FilterParams.{FilterParams}
-use Rattle.filter.specs.declared.Filtered.{Filtered}
-use Rattle.filter.specs.declared.Filtered.TheVariants.{Done, Refused}
 use Rattle.filter.specs.Input.{Input, quad_count}
 use Rattle.filter.specs.Marks.{Marked, kept_of}
 
@@ -38,22 +36,22 @@ unfoldable pub entry_gate : Input → ℕ → Gate
 entry_gate i words = gate_of i then work_row words (quad_words (quad_count i) (length i.xs))
 
 -- the answer in 01's numbers: how many quads there are
-abbrev pub filtered_told : Filtered → InNumbers ℕ
-filtered_told (Done count) = gives count
-filtered_told (Refused why) = refuses 0 why
+abbrev pub filtered_told : Result ℕ Refusal → InNumbers ℕ
+filtered_told (Ok count) = gives count
+filtered_told (Err why) = refuses 0 why
 
 -- the answer, and the lists that could change
 pub record Outcome : Type 0 where
-  pub answer : Filtered
+  pub answer : Result ℕ Refusal
   pub work : List ℕ
   pub kept : List ℕ
 
 -- where the rows before it are open: by row 9
 abbrev pub outcome_by : Gate → List Quad → List ℕ → List ℕ → Outcome
-outcome_by Open quads work kept = record { answer = Done (length quads); work = replicate (length work) 0; kept = words_of quads ++ drop (4 * length quads) kept }
-outcome_by (Shut why) quads work kept = record { answer = Refused why; work = replicate (length work) 0; kept = kept }
+outcome_by (Ok _) quads work kept = record { answer = Ok (length quads); work = replicate (length work) 0; kept = words_of quads ++ drop (4 * length quads) kept }
+outcome_by (Err why) quads work kept = record { answer = Err why; work = replicate (length work) 0; kept = kept }
 
 pub data Allowed (i : Input) (work kept : List ℕ) : Outcome → Type 0 where
-  refused : (why : Refusal) → entry_gate i (length work) ≡ Shut why → Allowed i work kept (record { answer = Refused why; work = work; kept = kept })
-  judged : entry_gate i (length work) ≡ Open → (marks : List ℕ) → Marked i marks
+  refused : (why : Refusal) → entry_gate i (length work) ≡ Err why → Allowed i work kept (record { answer = Err why; work = work; kept = kept })
+  judged : entry_gate i (length work) ≡ Ok tt → (marks : List ℕ) → Marked i marks
       → Allowed i work kept (outcome_by (room_row (length kept) (length (kept_of i marks))) (kept_of i marks) work kept)

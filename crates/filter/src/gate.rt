@@ -11,55 +11,61 @@ use mesh::inner::lists::{
     MOST_CORNERS, MOST_QUADS, limit_row, paired_row, quad_words, whole_row, work_row,
 };
 use mesh::inner::positions::positions_row;
-use refusal::Gate;
-use refusal::inner::in_order;
+use refusal::Refusal;
 
 // Rows 1 and 2.
-fn lengths_gate(x: usize, y: usize, quads: usize) -> Gate
+#[tactic(auto, unfolding(crate::specs::Call::lengths_gate))]
+fn lengths_gate(x: usize, y: usize, quads: usize) -> Result<(), Refusal>
     ensures { result ≡ lengths_gate x y quads }
 {
-    let limits = in_order(limit_row(x, MOST_CORNERS), limit_row(quads / 4, MOST_QUADS));
-    in_order(paired_row(y, x), in_order(whole_row(quads, 4), limits))
+    paired_row(y, x)?;
+    whole_row(quads, 4)?;
+    limit_row(x, MOST_CORNERS)?;
+    limit_row(quads / 4, MOST_QUADS)
 }
 
 // Row 3.
-fn params_gate(params: FilterParams) -> Gate
+#[tactic(auto, unfolding(crate::specs::Call::params_gate))]
+fn params_gate(params: FilterParams) -> Result<(), Refusal>
     ensures { result ≡ params_gate params }
 {
-    let sizes = in_order(
-        parameter_row(params.least, 2),
-        parameter_row(params.greatest, 3),
-    );
-    in_order(parameter_row(params.ratio, 1), sizes)
+    parameter_row(params.ratio, 1)?;
+    parameter_row(params.least, 2)?;
+    parameter_row(params.greatest, 3)
 }
 
 // Rows 4 to 6, for lists that rows 1 and 2 let through.
-fn values_gate(x: &[f32], y: &[f32], quads: &[u32]) -> Gate
+#[tactic(auto, unfolding(crate::specs::Call::values_gate))]
+fn values_gate(x: &[f32], y: &[f32], quads: &[u32]) -> Result<(), Refusal>
     requires { (length y.now ≡ length x.now) × (length x.now ≤ most_corners) × (length quads.now / 4 ≤ most_quads) }
     ensures { result ≡ values_gate x.now y.now quads.now }
 {
-    let corners = in_order(corners_row(quads, x.len()), twice_row(quads, 4));
-    in_order(positions_row(x, y), corners)
+    positions_row(x, y)?;
+    corners_row(quads, x.len())?;
+    twice_row(quads, 4)
 }
 
 // Rows 1 to 6.
-fn judge(x: &[f32], y: &[f32], quads: &[u32], params: FilterParams) -> Gate
+#[tactic(auto, unfolding(crate::specs::Call::gate_of))]
+fn judge(x: &[f32], y: &[f32], quads: &[u32], params: FilterParams) -> Result<(), Refusal>
     ensures { result ≡ gate_of (given x.entry y.entry quads.entry params) }
 {
-    let lengths = lengths_gate(x.len(), y.len(), quads.len());
-    match lengths {
-        Gate::Open => in_order(params_gate(params), values_gate(x, y, quads)),
-        Gate::Shut(why) => Gate::Shut(why),
-    }
+    lengths_gate(x.len(), y.len(), quads.len())?;
+    params_gate(params)?;
+    values_gate(x, y, quads)
 }
 
 // All rows but the ninth.
-pub(crate) fn entry(x: &[f32], y: &[f32], quads: &[u32], params: FilterParams, words: usize) -> Gate
+#[tactic(auto, unfolding(crate::specs::Call::entry_gate))]
+pub(crate) fn entry(
+    x: &[f32],
+    y: &[f32],
+    quads: &[u32],
+    params: FilterParams,
+    words: usize,
+) -> Result<(), Refusal>
     ensures { result ≡ entry_gate (given x.entry y.entry quads.entry params) words }
 {
-    let gate = judge(x, y, quads, params);
-    match gate {
-        Gate::Open => work_row(words, quad_words(quads.len() / 4, x.len())),
-        Gate::Shut(why) => Gate::Shut(why),
-    }
+    judge(x, y, quads, params)?;
+    work_row(words, quad_words(quads.len() / 4, x.len()))
 }

@@ -5,7 +5,7 @@
 ghost use Rattle.filter.specs.Input.{given};
 ghost use Rattle.filter.specs.Call.{Allowed};
 
-use refusal::{Gate, Refusal};
+use refusal::Refusal;
 use words::inner::fill_zero;
 
 mod gate;
@@ -24,14 +24,7 @@ pub struct FilterParams {
     pub greatest: f32,
 }
 
-// How many quads were kept, or why none were.
-#[derive(Drop)]
-pub enum Filtered {
-    Done(u32),
-    Refused(Refusal),
-}
-
-// Writes the quads that all three rules keep, in their order.
+// Writes the quads that all three rules keep, in their order; answers how many.
 pub fn filter_quads(
     x: &[f32],
     y: &[f32],
@@ -39,21 +32,18 @@ pub fn filter_quads(
     params: FilterParams,
     work: &mut [u32],
     kept: &mut [u32],
-) -> Filtered
+) -> Result<u32, Refusal>
     ensures { Allowed (given x.entry y.entry quads.entry params)
         work.old kept.old (record { answer = result; work = work.new; kept = kept.new }) }
 {
-    let gate = gate::entry(x, y, quads, params, work.len());
-    if let Gate::Shut(why) = gate {
-        return Filtered::Refused(why);
-    }
+    gate::entry(x, y, quads, params, work.len())?;
     inner::mark_quads(x, y, quads, params, work);
     let count = inner::count_kept(work, quads.len() / 4);
     if kept.len() / 4 < count {
         fill_zero(work);
-        return Filtered::Refused(Refusal::RecordsShort(count as u32));
+        return Err(Refusal::RecordsShort(count as u32));
     }
     inner::write_kept(quads, work, kept);
     fill_zero(work);
-    Filtered::Done(count as u32)
+    Ok(count as u32)
 }

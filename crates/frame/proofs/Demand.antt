@@ -2,11 +2,13 @@
 -- that rows 1 to 8 let through is one that labelling these quads allows. It is of the words in the caller's lists after a call that is done,
 -- and of what rows 9 and 10 say is wanted. All of it follows from the contract `Allowed`, whose outcome is the only one (`determined`); that
 -- assignments agree (`only`), and seeds (`one_seed`), is walk's as it stands. Assumes nothing.
+use Rattle.std.specs.Prelude.{Err}
+use Rattle.walk.specs.Call.{wrote}
 use mathlib.Core.Path.{◌≡◌}
 use mathlib.Core.List.{List}
 use Prim.Native.Nat.{ℕ, ◌+◌, ◌/◌, ◌≤◌, ◌<◌}
 use lib.ListN.{length}
-use Rattle.refusal.specs.declared.Gate.TheVariants.{Open}
+use Rattle.std.specs.Prelude.{Ok}
 use Rattle.refusal.specs.declared.Refusal.TheVariants.{RecordsShort, EntriesShort}
 use Rattle.refusal.proofs.Rows.{shut_open}
 use Rattle.cells.specs.Kind.{Pair, Fits}
@@ -16,7 +18,6 @@ use Rattle.cells.specs.Sums.{total}
 use Rattle.cells.specs.Holes.{holes}
 use Rattle.cells.specs.Quads.{quads}
 use Rattle.filter.specs.Marks.{Marked, kept_of}
-use Rattle.walk.specs.declared.Labelled.TheVariants.{Done, Refused}
 use Rattle.walk.specs.Input as labels
 use Rattle.walk.specs.Input.{quad_count, GroupsOf, grouping}
 use Rattle.walk.specs.Call as labelling_call
@@ -44,32 +45,32 @@ read i marks = labelling i (kept_of (filtering i) marks)
 -- ---- a call that rows 1 to 8 let through
 
 -- its outcome is one that labelling the quads kept allows
-as_labelled : (i : Input) (work components entries : List ℕ) (o : Outcome) → Allowed i work components entries o → entry_gate i (length work) ≡ Open
+as_labelled : (i : Input) (work components entries : List ℕ) (o : Outcome) → Allowed i work components entries o → entry_gate i (length work) ≡ Ok tt
     → (marks : List ℕ) → Marked (filtering i) marks → labelling_call.Allowed (read i marks) work components entries o
 as_labelled i work components entries o (refused why e) through marks marked = absurd (shut_open (entry_gate i (length work)) why e through)
 as_labelled i work components entries o (labelled e out a) through marks marked = labelled_quads (kept_through i _ e marks) out (labelled_under i out marks marked a)
 
 -- there are such marks
-marks_of : (i : Input) (work components entries : List ℕ) (o : Outcome) → Allowed i work components entries o → entry_gate i (length work) ≡ Open → (marks : List ℕ) × Marked (filtering i) marks
+marks_of : (i : Input) (work components entries : List ℕ) (o : Outcome) → Allowed i work components entries o → entry_gate i (length work) ≡ Ok tt → (marks : List ℕ) × Marked (filtering i) marks
 marks_of i work components entries o (refused why e) through = absurd (shut_open (entry_gate i (length work)) why e through)
 marks_of i work components entries o (labelled e out a) through = (a.marks, a.marked)
 
-open_done : (i : Input) (work components entries : List ℕ) (o : Outcome) → Allowed i work components entries o → (k l : ℕ) → o.answer ≡ Done k l → entry_gate i (length work) ≡ Open
+open_done : (i : Input) (work components entries : List ℕ) (o : Outcome) → Allowed i work components entries o → (k l : ℕ) → o.answer ≡ wrote k l → entry_gate i (length work) ≡ Ok tt
 open_done i work components entries o (refused why e) k l done = absurd (refused_done why k l done)
 open_done i work components entries o (labelled e out a) k l done = e
 
-open_by_9 : (i : Input) (work components entries : List ℕ) (o : Outcome) → Allowed i work components entries o → (w : ℕ) → o.answer ≡ Refused (RecordsShort w) → entry_gate i (length work) ≡ Open
+open_by_9 : (i : Input) (work components entries : List ℕ) (o : Outcome) → Allowed i work components entries o → (w : ℕ) → o.answer ≡ Err (RecordsShort w) → entry_gate i (length work) ≡ Ok tt
 open_by_9 i work components entries o (refused why e) w f = absurd (not_9 (entry_gate i (length work)) (entry_early i (length work)) why w e f)
 open_by_9 i work components entries o (labelled e out a) w f = e
 
-open_by_10 : (i : Input) (work components entries : List ℕ) (o : Outcome) → Allowed i work components entries o → (w : ℕ) → o.answer ≡ Refused (EntriesShort w) → entry_gate i (length work) ≡ Open
+open_by_10 : (i : Input) (work components entries : List ℕ) (o : Outcome) → Allowed i work components entries o → (w : ℕ) → o.answer ≡ Err (EntriesShort w) → entry_gate i (length work) ≡ Ok tt
 open_by_10 i work components entries o (refused why e) w f = absurd (not_10 (entry_gate i (length work)) (entry_early i (length work)) why w e f)
 open_by_10 i work components entries o (labelled e out a) w f = e
 
 -- ---- a call that is done
 
 -- it answered k components and l entries
-module _ (i : Input) (work components entries : List ℕ) (o : Outcome) (allowed : Allowed i work components entries o) (k l : ℕ) (done : o.answer ≡ Done k l) where
+module _ (i : Input) (work components entries : List ℕ) (o : Outcome) (allowed : Allowed i work components entries o) (k l : ℕ) (done : o.answer ≡ wrote k l) where
   -- there are marks of the filters, and `marks_determined` of crates/filter says that they are the only ones
   pub filtered : (marks : List ℕ) × Marked (filtering i) marks
   filtered = marks_of i work components entries o allowed (open_done i work components entries o allowed k l done)
@@ -127,7 +128,7 @@ module _ (i : Input) (work components entries : List ℕ) (o : Outcome) (allowed
 
 module _ (i : Input) (work components entries : List ℕ) (o : Outcome) (allowed : Allowed i work components entries o) where
   -- a call that rows 1 to 8 let through: there are marks of the filters, and numbers of the groups of the quads kept
-  module _ (through : entry_gate i (length work) ≡ Open) where
+  module _ (through : entry_gate i (length work) ≡ Ok tt) where
     pub grouped : (marks : List ℕ) × (Marked (filtering i) marks × ((number : ℕ → ℕ) × GroupsOf (read i marks) number))
     grouped =
         let (marks, marked) = marks_of i work components entries o allowed through in
@@ -145,9 +146,9 @@ module _ (i : Input) (work components entries : List ℕ) (o : Outcome) (allowed
 
   module _ (marks : List ℕ) (marked : Marked (filtering i) marks) (number : ℕ → ℕ) (groups : GroupsOf (read i marks) number) (w : ℕ) where
     -- row 9: w groups have all that is demanded, and there is room for fewer
-    pub records_wanted : o.answer ≡ Refused (RecordsShort w) → Exactly (Yields (read i marks) number) w × (length components / 3 < w)
+    pub records_wanted : o.answer ≡ Err (RecordsShort w) → Exactly (Yields (read i marks) number) w × (length components / 3 < w)
     records_wanted e = walk.records_wanted (read i marks) work components entries o (as_labelled i work components entries o allowed (open_by_9 i work components entries o allowed w e) marks marked) number groups w e
 
     -- row 10: the lone corners of the groups that have all that is demanded are w in all; there is room for the groups, but for fewer entries
-    pub entries_wanted : o.answer ≡ Refused (EntriesShort w) → (k : ℕ) × (Wanted (read i marks) number k w × (k ≤ length components / 3) × (length entries / 3 < w))
+    pub entries_wanted : o.answer ≡ Err (EntriesShort w) → (k : ℕ) × (Wanted (read i marks) number k w × (k ≤ length components / 3) × (length entries / 3 < w))
     entries_wanted e = walk.entries_wanted (read i marks) work components entries o (as_labelled i work components entries o allowed (open_by_10 i work components entries o allowed w e) marks marked) number groups w e

@@ -1,5 +1,6 @@
 -- The call has one outcome (`determined`): the rows decide, a frame has one list of marks, and the quads that they keep one list of
 -- components. Assumes nothing.
+use Rattle.std.specs.Prelude.{Err}
 use mathlib.Core.Path.{◌≡◌, ap, subst}
 use mathlib.Core.List.{List}
 use Prim.Native.Nat.{ℕ}
@@ -10,7 +11,6 @@ use Rattle.refusal.proofs.Rows.{shut_open, one_why}
 use Rattle.filter.specs.Marks.{Marked, kept_of}
 use Rattle.filter.proofs.Determined.{marks_determined}
 use Rattle.cells.specs.Listed.{Entry}
-use Rattle.walk.specs.declared.Labelled.TheVariants.{Refused}
 use Rattle.walk.specs.Input as labels
 use Rattle.walk.specs.Call.{all_entries, room_row, entries_row, Outcome, outcome_by}
 use Rattle.walk.proofs.Determined.{one_out}
@@ -27,7 +27,7 @@ one_answer i out other a b = one_out (labelling i (kept_of (filtering i) b.marks
 
 pub determined : (i : Input) (work components entries : List ℕ) (o p : Outcome) → Allowed i work components entries o → Allowed i work components entries p → o ≡ p
 determined i work components entries o p (refused why e) (refused other f) =
-    ap (λ (w : Refusal). record { answer = Refused w; work = work; components = components; entries = entries }) (one_why (entry_gate i (length work)) why other e f)
+    ap (λ (w : Refusal). record { answer = Err w; work = work; components = components; entries = entries }) (one_why (entry_gate i (length work)) why other e f)
 determined i work components entries o p (refused why e) (labelled f out a) = absurd (shut_open (entry_gate i (length work)) why e f)
 determined i work components entries o p (labelled e out a) (refused why f) = absurd (shut_open (entry_gate i (length work)) why f e)
 determined i work components entries o p (labelled e out a) (labelled f other b) =

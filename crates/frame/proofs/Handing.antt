@@ -5,7 +5,7 @@ use mathlib.Core.List.{List, ◌++◌}
 use Prim.Native.Nat.{ℕ, ◌*◌, ◌≤◌}
 use native.Mathlib.Omega.{arith}
 use lib.ListN.{length, take, drop, length-append, length-drop}
-use Rattle.refusal.specs.declared.Gate.TheVariants.{Open}
+use Rattle.std.specs.Prelude.{Ok}
 use Rattle.mesh.specs.Lists.{quad_words, frame_words}
 use Rattle.filter.specs.Input as filters
 use Rattle.filter.specs.inner.Steps.{Sound}
@@ -24,7 +24,7 @@ module _ (i : Input) (list : List ℕ) (n : ℕ) (quads : List ℕ) (made : Made
   pub sifted_made : (k : ℕ) (kept : List ℕ) → Sifted (by i (take (4 * n) quads)) k kept → Sifted (filtering i) k kept
   sifted_made k kept s = subst (λ (l : List ℕ). Sifted (by i l) k kept) made.front s
 
-  module _ (through : judge_of i ≡ Open) where
+  module _ (through : judge_of i ≡ Ok tt) where
     -- the workspace with the classes written at its front
     pub same_work : (work : List ℕ) → length i.triangles ≤ length work → length (list ++ drop (length i.triangles) work) ≡ length work
     same_work work h =

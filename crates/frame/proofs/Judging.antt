@@ -5,7 +5,7 @@ use mathlib.Core.List.{List}
 use Prim.Native.Nat.{ℕ, ◌+◌, ◌*◌, ◌≤◌, max}
 use native.Mathlib.Omega.{arith}
 use lib.ListN.{length, take}
-use Rattle.refusal.specs.declared.Gate.TheVariants.{Open}
+use Rattle.std.specs.Prelude.{Ok}
 use Rattle.mesh.specs.Lists.{most_quads}
 use Rattle.laying.specs.inner.Layout.{Given}
 use Rattle.fates.specs.inner.Computed.{Computed}
@@ -16,7 +16,7 @@ use Rattle.frame.proofs.Sound.{entry_open}
 use Rattle.frame.proofs.Labelling.{kept_few, kept_given, kept_room}
 
 module _ (i : Input) (n : ℕ) (list : List ℕ) (sifted : Sifted (filtering i) n list) where
-  module _ (words : ℕ) (through : entry_gate i words ≡ Open) where
+  module _ (words : ℕ) (through : entry_gate i words ≡ Ok tt) where
     -- so their words can be counted
     pub few_kept : n ≤ most_quads
     few_kept = omega (arith, sifted.count, kept_few i (entry_open i words through).0 sifted.marks)

@@ -5,7 +5,7 @@ use mathlib.Core.List.{List}
 use Prim.Native.Nat.{ℕ, ◌≤◌, max}
 use native.Mathlib.Omega.{arith}
 use lib.ListN.{length, get_or}
-use Rattle.refusal.specs.declared.Gate.TheVariants.{Open}
+use Rattle.std.specs.Prelude.{Ok}
 use Rattle.mesh.specs.Lists.{most_quads, quad_words, frame_words}
 use Rattle.quads.specs.declared.Quad.{Quad}
 use Rattle.quads.specs.Call.{words_of}
@@ -26,7 +26,7 @@ pub kept_less : (i : Input) (marks : List ℕ) → length (kept_of (filtering i)
 unfolding kept_of
 kept_less i marks = omega (arith, kept_le (filtering i).quads (λ (q : ℕ). get_or marks q 0) (quad_count (filtering i)), length_words (merged_of (merging i)))
 
-module _ (i : Input) (through : judge_of i ≡ Open) (marks : List ℕ) where
+module _ (i : Input) (through : judge_of i ≡ Ok tt) (marks : List ℕ) where
   abbrev kept : List Quad
   kept = kept_of (filtering i) marks
 

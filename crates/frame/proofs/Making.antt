@@ -4,7 +4,7 @@ use mathlib.Core.List.{List, ◌++◌}
 use Prim.Native.Nat.{ℕ, ◌*◌, ◌≤◌}
 use native.Mathlib.Omega.{arith}
 use lib.ListN.{length, drop}
-use Rattle.refusal.specs.declared.Gate.TheVariants.{Open}
+use Rattle.std.specs.Prelude.{Ok}
 use Rattle.mesh.specs.Lists.{most_quads}
 use Rattle.classify.specs.Classes.{classes_of}
 use Rattle.quads.specs.Call.{words_of}
@@ -22,7 +22,7 @@ abbrev by : Input → List ℕ → merge.Input
 by i list = record { xs = i.xs; ys = i.ys; mesh = record { triangles = i.triangles; twins = i.twins; classes = list } }
 
 module _ (i : Input) (list : List ℕ) (classed : list ≡ classes_of (classing i)) where
-  pub merge_asks : judge_of i ≡ Open → (words : ℕ) → 4 * most_quads ≤ words → merge_inner.Sound (by i list) × (4 * length (merged_of (by i list)) ≤ words)
+  pub merge_asks : judge_of i ≡ Ok tt → (words : ℕ) → 4 * most_quads ≤ words → merge_inner.Sound (by i list) × (4 * length (merged_of (by i list)) ≤ words)
   merge_asks through words room =
       subst (λ (l : List ℕ). merge_inner.Sound (by i l) × (4 * length (merged_of (by i l)) ≤ words)) (sym classed)
       (merging_sound i through, omega (arith, made_few i through, (classing_sound i through).edges))

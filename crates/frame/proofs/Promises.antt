@@ -4,7 +4,7 @@
 use mathlib.Core.Path.{◌≡◌, refl}
 use mathlib.Core.List.{List, Memᴰ}
 use Prim.Native.Nat.{ℕ, ◌<◌}
-use Rattle.refusal.specs.declared.Gate.TheVariants.{Open}
+use Rattle.std.specs.Prelude.{Ok}
 use Rattle.quads.specs.declared.Quad.{Quad}
 use Rattle.quads.specs.Arranged.{Arranged}
 use Rattle.filter.specs.Input.{quad_count}
@@ -18,7 +18,7 @@ use Rattle.frame.specs.Stages.{Input, merging, filtering}
 use Rattle.frame.specs.Call.{judge_of}
 use Rattle.frame.proofs.Sound.{merging_sound, filtering_sound}
 
-module _ (i : Input) (through : judge_of i ≡ Open) where
+module _ (i : Input) (through : judge_of i ≡ Ok tt) where
   pub seen_ordered : (marks : List ℕ) (q : Quad) → Memᴰ q (kept_of (filtering i) marks) → Arranged (merging i) q
   seen_ordered marks q k = all_ordered (merging i) (merging_sound i through) q (kept_from (filtering i) marks (merged_of (merging i)) refl q k)
 

@@ -6,7 +6,7 @@ use Prim.Native.Nat.{ℕ, ◌*◌, ◌≤◌, ◌<◌}
 use native.Mathlib.Omega.{arith}
 use lib.Ieee.{Float}
 use lib.ListN.{length}
-use Rattle.refusal.specs.declared.Gate.TheVariants.{Open}
+use Rattle.std.specs.Prelude.{Ok}
 use Rattle.refusal.specs.Rows.{◌then◌}
 use Rattle.refusal.proofs.Rows.{open_both}
 use Rattle.words.proofs.Listing.{length_listing}
@@ -32,18 +32,18 @@ use Rattle.frame.proofs.Written.{words_exist, words_clear}
 -- ---- the rows
 
 -- rows 1 and 2 are those of classes, with the twins where these have a class list
-pub lengths_open : (x y angles marks spreads triangles twins : ℕ) → lengths_gate x y angles marks spreads triangles twins ≡ Open → classes_sound.Paired x y angles marks spreads triangles twins
+pub lengths_open : (x y angles marks spreads triangles twins : ℕ) → lengths_gate x y angles marks spreads triangles twins ≡ Ok tt → classes_sound.Paired x y angles marks spreads triangles twins
 unfolding lengths_gate class_lengths
 lengths_open x y angles marks spreads triangles twins e = classes_sound.lengths_open x y angles marks spreads triangles twins e
 
 -- rows 4 to 7
 record Values (xs ys : List Float) (triangles twins : List ℕ) : Type 0 where
-  positions : positions_row xs ys ≡ Open
-  corners : corners_row (length xs) triangles ≡ Open
-  twice : twice_row 3 triangles ≡ Open
-  paired : twins_row triangles twins ≡ Open
+  positions : positions_row xs ys ≡ Ok tt
+  corners : corners_row (length xs) triangles ≡ Ok tt
+  twice : twice_row 3 triangles ≡ Ok tt
+  paired : twins_row triangles twins ≡ Ok tt
 
-values_open : (xs ys : List Float) (triangles twins : List ℕ) → values_gate xs ys triangles twins ≡ Open → Values xs ys triangles twins
+values_open : (xs ys : List Float) (triangles twins : List ℕ) → values_gate xs ys triangles twins ≡ Ok tt → Values xs ys triangles twins
 unfolding values_gate
 values_open xs ys triangles twins e =
     let v1 = open_both (positions_row xs ys) (corners_row (length xs) triangles then twice_row 3 triangles then twins_row triangles twins) e in
@@ -52,13 +52,13 @@ values_open xs ys triangles twins e =
     record { positions = v1.0; corners = v2.0; twice = v3.0; paired = v3.1 }
 
 -- row 8, apart from those before it
-pub entry_open : (i : Input) (words : ℕ) → entry_gate i words ≡ Open → (judge_of i ≡ Open) × (frame_words (length i.triangles) (length i.xs) ≤ words)
+pub entry_open : (i : Input) (words : ℕ) → entry_gate i words ≡ Ok tt → (judge_of i ≡ Ok tt) × (frame_words (length i.triangles) (length i.xs) ≤ words)
 unfolding entry_gate
 entry_open i words e =
     let both = open_both (judge_of i) (work_row words (frame_words (length i.triangles) (length i.xs))) e in
     (both.0, work_open words (frame_words (length i.triangles) (length i.xs)) both.1)
 
-module _ (i : Input) (through : judge_of i ≡ Open) where
+module _ (i : Input) (through : judge_of i ≡ Ok tt) where
   rows : classes_sound.Paired (length i.xs) (length i.ys) (length i.angles) (length i.marks) (length i.spreads) (length i.triangles) (length i.twins) × Values i.xs i.ys i.triangles i.twins
   unfolding judge_of
   rows =

@@ -1,10 +1,9 @@
 -- The call `label_frame` whole: rows 1 to 7 in order, 18 behind 3, row 8, rows 9 and 10, or the components and their entries at the fronts
 -- of their lists. The workspace is all zero after rows 9 and 10 and on success, and untouched by every other refusal.
 use Rattle.std.specs.Prelude.{◌≡◌, List, ℕ, Float, length}
-use Rattle.refusal.specs.declared.Gate.{Gate}
-use Rattle.refusal.specs.declared.Gate.TheVariants.{Open, Shut}
+use Rattle.std.specs.Prelude.{Ok, Err}
 use Rattle.refusal.specs.declared.Refusal.{Refusal}
-use Rattle.refusal.specs.Rows.{◌then◌}
+use Rattle.refusal.specs.Rows.{Gate, ◌then◌}
 use Rattle.measure.specs.Parameter.{parameter_row}
 use Rattle.axis.specs.Cache.{rule_row}
 use Rattle.mesh.specs.Lists.{paired_row, doubled_row, whole_row, limit_row, most_corners, most_half_edges, work_row, frame_words}
@@ -12,7 +11,6 @@ use Rattle.mesh.specs.Positions.{positions_row}
 use Rattle.mesh.specs.Cells.{corners_row, twice_row}
 use Rattle.mesh.specs.Twins.{twins_row}
 use Rattle.cells.specs.Listed.{Entry}
-use Rattle.walk.specs.declared.Labelled.TheVariants.{Refused}
 use Rattle.walk.specs.Call.{Outcome, outcome_in}
 use Rattle.frame.specs.declared.Params.{Params}
 use Rattle.frame.specs.Stages.{Input, Answer}
@@ -44,6 +42,6 @@ unfoldable pub entry_gate : Input → ℕ → Gate
 entry_gate i words = judge_of i then work_row words (frame_words (length i.triangles) (length i.xs))
 
 pub data Allowed (i : Input) (work components entries : List ℕ) : Outcome → Type 0 where
-  refused : (why : Refusal) → entry_gate i (length work) ≡ Shut why → Allowed i work components entries (record { answer = Refused why; work = work; components = components; entries = entries })
-  labelled : entry_gate i (length work) ≡ Open → (out : List (List Entry)) → Answer i out
+  refused : (why : Refusal) → entry_gate i (length work) ≡ Err why → Allowed i work components entries (record { answer = Err why; work = work; components = components; entries = entries })
+  labelled : entry_gate i (length work) ≡ Ok tt → (out : List (List Entry)) → Answer i out
       → Allowed i work components entries (outcome_in out work components entries)

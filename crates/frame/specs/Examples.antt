@@ -1,8 +1,8 @@
 -- Document 01's examples marked P, in its order: one list, and one proof of it in proofs/Examples; each line on labelling is said by the
 -- definitions (`Says`, of cells). The frame of its program stands last, through all stages.
+use Rattle.std.specs.Prelude.{Ok}
 use Rattle.std.specs.Prelude.{◌≡◌, true, false, List, [], ◌∷◌, ℕ, Float, replicate}
 use Rattle.std.specs.Float.Ieee as Ieee
-use Rattle.measure.specs.declared.Measured.TheVariants.{Known}
 use Rattle.measure.specs.Float.{bits, fraction}
 use Rattle.measure.specs.Angle.{angle_of}
 use Rattle.measure.specs.RootComputed.{root_of}
@@ -57,14 +57,14 @@ printed = entry 0 0 0 ∷ entry 0 1 3 ∷ entry 1 0 1 ∷ entry 1 1 2 ∷ []
 
 pub record Examples : Type 0 where
   -- root of 2 is 3FB504F3; of 100 is 10; of 00000001 is 1A3504F3
-  pub root_of_2 : root_of (fraction 2 1) ≡ Known (bits 0x3FB504F3)
-  pub root_of_100 : root_of (fraction 100 1) ≡ Known (fraction 10 1)
-  pub root_of_00000001 : root_of (bits 0x00000001) ≡ Known (bits 0x1A3504F3)
+  pub root_of_2 : root_of (fraction 2 1) ≡ Ok (bits 0x3FB504F3)
+  pub root_of_100 : root_of (fraction 100 1) ≡ Ok (fraction 10 1)
+  pub root_of_00000001 : root_of (bits 0x00000001) ≡ Ok (bits 0x1A3504F3)
   -- angle (10,10) is 3F490FDB; (0,10) is 3FC90FDB; (-10,0) is 40490FDB; (0,0) is 0
-  pub angle_10_10 : angle_of (fraction 10 1) (fraction 10 1) ≡ Known (bits 0x3F490FDB)
-  pub angle_0_10 : angle_of (bits 0) (fraction 10 1) ≡ Known (bits 0x3FC90FDB)
-  pub angle_minus_10_0 : angle_of (Ieee.neg (fraction 10 1)) (bits 0) ≡ Known (bits 0x40490FDB)
-  pub angle_0_0 : angle_of (bits 0) (bits 0) ≡ Known (bits 0)
+  pub angle_10_10 : angle_of (fraction 10 1) (fraction 10 1) ≡ Ok (bits 0x3F490FDB)
+  pub angle_0_10 : angle_of (bits 0) (fraction 10 1) ≡ Ok (bits 0x3FC90FDB)
+  pub angle_minus_10_0 : angle_of (Ieee.neg (fraction 10 1)) (bits 0) ≡ Ok (bits 0x40490FDB)
+  pub angle_0_0 : angle_of (bits 0) (bits 0) ≡ Ok (bits 0)
   -- a corner in four quads counts 8, legal; in five, 10, illegal
   pub in_four : (incidence four 0 ≡ 8) × (illegal four 0 ≡ false)
   pub in_five : (incidence five 0 ≡ 10) × (illegal five 0 ≡ true)

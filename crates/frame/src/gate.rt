@@ -12,10 +12,10 @@ use mesh::inner::lists::{
 };
 use mesh::inner::positions::positions_row;
 use mesh::inner::twins::twins_row;
-use refusal::Gate;
-use refusal::inner::in_order;
+use refusal::Refusal;
 
 // Rows 1 and 2.
+#[tactic(auto, unfolding(crate::specs::Call::lengths_gate))]
 pub(crate) fn lengths_gate(
     x: usize,
     y: usize,
@@ -24,48 +24,45 @@ pub(crate) fn lengths_gate(
     spreads: usize,
     triangles: usize,
     twins: usize,
-) -> Gate
+) -> Result<(), Refusal>
     ensures { result ≡ lengths_gate x y angles marks spreads triangles twins }
 {
-    let limits = in_order(
-        limit_row(x, MOST_CORNERS),
-        limit_row(triangles, MOST_HALF_EDGES),
-    );
-    let edges = in_order(
-        whole_row(triangles, 3),
-        in_order(paired_row(twins, triangles), limits),
-    );
-    let slots = in_order(
-        doubled_row(marks, x),
-        in_order(doubled_row(spreads, x), edges),
-    );
-    in_order(paired_row(y, x), in_order(doubled_row(angles, x), slots))
+    paired_row(y, x)?;
+    doubled_row(angles, x)?;
+    doubled_row(marks, x)?;
+    doubled_row(spreads, x)?;
+    whole_row(triangles, 3)?;
+    paired_row(twins, triangles)?;
+    limit_row(x, MOST_CORNERS)?;
+    limit_row(triangles, MOST_HALF_EDGES)
 }
 
 // Rows 3 and 18.
-pub(crate) fn params_gate(params: Params) -> Gate
+#[tactic(auto, unfolding(crate::specs::Call::params_gate))]
+pub(crate) fn params_gate(params: Params) -> Result<(), Refusal>
     ensures { result ≡ params_gate params }
 {
-    let edges = params.edges;
-    let rule = edges.spread;
-    let filters = params.filters;
-    let last = in_order(
-        parameter_row(filters.greatest, 3),
-        in_order(parameter_row(rule.limit, 4), rule_row(rule)),
-    );
-    let sizes = in_order(
-        parameter_row(filters.ratio, 1),
-        in_order(parameter_row(filters.least, 2), last),
-    );
-    in_order(parameter_row(edges.tolerance, 0), sizes)
+    parameter_row(params.edges.tolerance, 0)?;
+    parameter_row(params.filters.ratio, 1)?;
+    parameter_row(params.filters.least, 2)?;
+    parameter_row(params.filters.greatest, 3)?;
+    parameter_row(params.edges.spread.limit, 4)?;
+    rule_row(params.edges.spread)
 }
 
 // Rows 4 to 7, for lists that rows 1 and 2 let through.
-pub(crate) fn values_gate(x: &[f32], y: &[f32], triangles: &[u32], twins: &[u32]) -> Gate
+#[tactic(auto, unfolding(crate::specs::Call::values_gate))]
+pub(crate) fn values_gate(
+    x: &[f32],
+    y: &[f32],
+    triangles: &[u32],
+    twins: &[u32],
+) -> Result<(), Refusal>
     requires { (length y.now ≡ length x.now) × (length x.now ≤ most_corners) × (length triangles.now ≤ most_half_edges) × (length triangles.now % 3 ≡ 0) × (length twins.now ≡ length triangles.now) }
     ensures { result ≡ values_gate x.now y.now triangles.now twins.now }
 {
-    let edges = in_order(twice_row(triangles, 3), twins_row(triangles, twins));
-    let named = in_order(corners_row(triangles, x.len()), edges);
-    in_order(positions_row(x, y), named)
+    positions_row(x, y)?;
+    corners_row(triangles, x.len())?;
+    twice_row(triangles, 3)?;
+    twins_row(triangles, twins)
 }

@@ -1,7 +1,6 @@
 // The rows of a frame apart from its work, row 8 apart from the rows before it, and the work up to the fates and their counts apart from
 // writing.
 ghost use Rattle.std.specs.Prelude.{◌≡◌, ◌≤◌, length};
-ghost use Rattle.refusal.specs.declared.Gate.TheVariants.{Open};
 ghost use Rattle.mesh.specs.Lists.{most_corners, most_half_edges, work_row, frame_words};
 ghost use Rattle.frame.specs.Stages.{given};
 ghost use Rattle.frame.specs.Call.{judge_of, entry_gate};
@@ -12,8 +11,7 @@ use crate::gate::{lengths_gate, params_gate, values_gate};
 use crate::stages::quads_of;
 use fates::inner::{compute, span_of};
 use mesh::inner::lists::{MOST_QUADS, frame_words, work_row};
-use refusal::Gate;
-use refusal::inner::in_order;
+use refusal::Refusal;
 use walk::inner::{Totals, count_components};
 
 // How many quads are kept, and how many components and entries their groups make.
@@ -24,6 +22,7 @@ pub struct FrameCounts {
 }
 
 // Rows 1 to 7, with 18.
+#[tactic(auto, unfolding(crate::specs::Call::judge_of))]
 pub fn judge(
     x: &[f32],
     y: &[f32],
@@ -33,10 +32,10 @@ pub fn judge(
     triangles: &[u32],
     twins: &[u32],
     params: Params,
-) -> Gate
+) -> Result<(), Refusal>
     ensures { result ≡ judge_of (given x.entry y.entry angles.entry marks.entry spreads.entry triangles.entry twins.entry params) }
 {
-    let lengths = lengths_gate(
+    lengths_gate(
         x.len(),
         y.len(),
         angles.len(),
@@ -44,15 +43,13 @@ pub fn judge(
         spreads.len(),
         triangles.len(),
         twins.len(),
-    );
-    match lengths {
-        Gate::Open => in_order(params_gate(params), values_gate(x, y, triangles, twins)),
-        Gate::Shut(why) => Gate::Shut(why),
-    }
+    )?;
+    params_gate(params)?;
+    values_gate(x, y, triangles, twins)
 }
 
 // Row 8, for counts that row 2 let through.
-pub fn work_gate(words: usize, edges: usize, corners: usize) -> Gate
+pub fn work_gate(words: usize, edges: usize, corners: usize) -> Result<(), Refusal>
     requires { (edges ≤ most_half_edges) × (corners ≤ most_corners) }
     ensures { result ≡ work_row words (frame_words edges corners) }
 {
@@ -72,7 +69,7 @@ pub fn compute_frame(
     params: Params,
     work: &mut [u32],
 ) -> FrameCounts
-    requires { entry_gate (given x y angles marks spreads triangles twins params) (length work.old) ≡ Open }
+    requires { entry_gate (given x y angles marks spreads triangles twins params) (length work.old) ≡ Ok tt }
     ensures fated { Fated (given x.entry y.entry angles.entry marks.entry spreads.entry triangles.entry twins.entry params) result.quads work.old work.new }
     ensures counted_fates { CountedFates (length x.now) result work.new }
 {

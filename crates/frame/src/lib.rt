@@ -10,7 +10,7 @@ use fates::LabelParams;
 use fates::inner::span_of;
 use filter::FilterParams;
 use inner::{compute_frame, judge, work_gate};
-use refusal::Gate;
+use refusal::Refusal;
 use walk::Labelled;
 use walk::inner::write_components;
 
@@ -39,19 +39,13 @@ pub fn label_frame(
     work: &mut [u32],
     components: &mut [u32],
     entries: &mut [u32],
-) -> Labelled
+) -> Result<Labelled, Refusal>
     ensures { Allowed (given x.entry y.entry angles.entry marks.entry spreads.entry triangles.entry twins.entry params)
         work.old components.old entries.old
         (record { answer = result; work = work.new; components = components.new; entries = entries.new }) }
 {
-    let gate = judge(x, y, angles, marks, spreads, triangles, twins, params);
-    if let Gate::Shut(why) = gate {
-        return Labelled::Refused(why);
-    }
-    let room = work_gate(work.len(), triangles.len(), x.len());
-    if let Gate::Shut(why) = room {
-        return Labelled::Refused(why);
-    }
+    judge(x, y, angles, marks, spreads, triangles, twins, params)?;
+    work_gate(work.len(), triangles.len(), x.len())?;
     let counts = compute_frame(x, y, angles, marks, spreads, triangles, twins, params, work);
     let n = counts.quads;
     let span = span_of(n, x.len());

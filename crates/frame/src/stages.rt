@@ -1,7 +1,6 @@
 // The stages up to the quads that the filters keep. Classes and marks stand in the workspace; quads stand apart from it, since a stage reads
 // them while it writes there, and in one list: those kept take the place of those made.
 ghost use Rattle.std.specs.Prelude.{◌≡◌, ◌*◌, ◌≤◌, length, take};
-ghost use Rattle.refusal.specs.declared.Gate.TheVariants.{Open};
 ghost use Rattle.mesh.specs.Lists.{most_quads, quad_words};
 ghost use Rattle.filter.specs.inner.Steps.{Sound};
 ghost use Rattle.frame.specs.Stages.{filtering, given};
@@ -28,7 +27,7 @@ fn make_quads(
     classes: &mut [u32],
     quads: &mut [u32],
 ) -> usize
-    requires rows_open { judge_of (given x y angles marks spreads triangles twins params) ≡ Open }
+    requires rows_open { judge_of (given x y angles marks spreads triangles twins params) ≡ Ok tt }
     requires classes_len { (length classes.old ≡ length triangles.now) × (4 * most_quads ≤ length quads.old) }
     ensures { Made (given x.entry y.entry angles.entry marks.entry spreads.entry triangles.entry twins.entry params) classes.new result quads.new }
 {
@@ -67,7 +66,7 @@ pub(crate) fn quads_of(
     work: &mut [u32],
     quads: &mut [u32],
 ) -> usize
-    requires { (entry_gate (given x y angles marks spreads triangles twins params) (length work.old) ≡ Open) × (4 * most_quads ≤ length quads.old) }
+    requires { (entry_gate (given x y angles marks spreads triangles twins params) (length work.old) ≡ Ok tt) × (4 * most_quads ≤ length quads.old) }
     ensures { Sifted (filtering (given x.entry y.entry angles.entry marks.entry spreads.entry triangles.entry twins.entry params)) result quads.new × (length work.new ≡ length work.old) }
 {
     let h = triangles.len();

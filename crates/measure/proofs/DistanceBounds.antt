@@ -1,5 +1,6 @@
 -- A distance is finite and at least 0, or -0: the rest by pi is at most pi in magnitude, and what stands after the first step at most pi.
 -- Assumes nothing.
+use Rattle.std.specs.Prelude.{Option, Some, None}
 use mathlib.Core.Path.{◌≡◌, refl, subst}
 use mathlib.Core.Bool.{Bool, true, false, cond}
 use Prim.Native.Nat.{ℕ, ◌+◌, ◌-◌, ◌*◌, ◌%◌, ◌≤◌, ◌<◌}
@@ -14,8 +15,6 @@ use lib.Ieee.Fits.{down_pos}
 use lib.Ieee.Order.{round_mono}
 use lib.Ieee.Scale.{finite}
 use Rattle.measure.specs.Float.{bits}
-use Rattle.measure.specs.declared.Distance.{Distance}
-use Rattle.measure.specs.declared.Distance.TheVariants.{Known, Missing}
 use Rattle.measure.specs.Distance.{pi, lifted, folded, apart, number_or_none, distance_of}
 use Rattle.measure.proofs.Rounding.{or_le, small_round, round_neg}
 use Rattle.measure.proofs.Bounds.{le_or}
@@ -129,9 +128,9 @@ apart_from_zero (fin s m e) f =
     let some : 0 < 13176795 * 1 * down e = mul-pos (lit< tt) (down_pos e) in
     rounded_from_zero s (m * up e * 4194304 % (13176795 * 1 * down e)) (down e * 4194304) (mul-pos (down_pos e) (lit< tt)) (omega (arith, mod-lt (m * up e * 4194304) some))
 
-abbrev pub FromZero : Distance → Type 0
-FromZero (Known d) = T (finite d) × (le (bits 0) d ≡ true)
-FromZero Missing = Unit
+abbrev pub FromZero : Option Float → Type 0
+FromZero (Some d) = T (finite d) × (le (bits 0) d ≡ true)
+FromZero None = Unit
 
 pub distance_from_zero : (angle axis : Float) → FromZero (distance_of angle axis)
 unfolding distance_of apart number_or_none

@@ -1,10 +1,10 @@
 -- For differences in reach the root of the sum of squares is known, and so the length is that root. Assumes nothing.
+use Rattle.std.specs.Prelude.{Ok}
 use mathlib.Core.Path.{◌≡◌, refl, sym, subst}
 use mathlib.Core.Bool.{true, false}
 use Prim.Native.Nat.{ℕ, zero, suc, ◌+◌, ◌*◌}
 use lib.IntN.{ℤ}
 use lib.Ieee.{Float, fin, binary32, mul, round}
-use Rattle.measure.specs.declared.Measured.TheVariants.{Known}
 use Rattle.measure.specs.Length.{squares, or_zero, length_of}
 use Rattle.measure.specs.Position.{in_reach}
 use Rattle.measure.specs.RootComputed.{root_of}
@@ -21,15 +21,15 @@ unfolding round
 exact43 = (1, 43, refl, refl)
 
 -- a float whose sign bit is clear has a root
-clear_known : (m : ℕ) (e : ℤ) → root_of (fin false m e) ≡ Known (or_zero (root_of (fin false m e)))
+clear_known : (m : ℕ) (e : ℤ) → root_of (fin false m e) ≡ Ok (or_zero (root_of (fin false m e)))
 unfolding root_of or_zero
 clear_known zero e = refl
 clear_known (suc m) e = refl
 
-small_known : (n : ℕ) (x : Float) → Small n x → root_of x ≡ Known (or_zero (root_of x))
-small_known n x (m, e, p, h) = subst (λ (z : Float). root_of z ≡ Known (or_zero (root_of z))) (sym p) (clear_known m e)
+small_known : (n : ℕ) (x : Float) → Small n x → root_of x ≡ Ok (or_zero (root_of x))
+small_known n x (m, e, p, h) = subst (λ (z : Float). root_of z ≡ Ok (or_zero (root_of z))) (sym p) (clear_known m e)
 
-pub length_known : (dx dy : Float) → in_reach dx ≡ true → in_reach dy ≡ true → root_of (squares dx dy) ≡ Known (length_of dx dy)
+pub length_known : (dx dy : Float) → in_reach dx ≡ true → in_reach dy ≡ true → root_of (squares dx dy) ≡ Ok (length_of dx dy)
 unfolding length_of
 length_known dx dy p q =
     small_known (2097152 * 2097152 + 2097152 * 2097152) (squares dx dy)

@@ -1,11 +1,11 @@
 -- Inside a frame no angle and no length is refused: a difference of two positions is in reach, a centroid of four is a position. Assumes nothing.
+use Rattle.std.specs.Prelude.{Ok}
 use mathlib.Core.Path.{◌≡◌, refl, sym, subst}
 use mathlib.Core.Bool.{true, false}
 use lib.Ieee.{Float, fin, binary32, add, sub, round}
 use lib.Dec.{T}
 use lib.Ieee.Scale.{finite}
 use lib.IntN.{pos}
-use Rattle.measure.specs.declared.Measured.TheVariants.{Known}
 use Rattle.measure.specs.Float.{fraction}
 use Rattle.measure.specs.Position.{is_position, in_reach, centroid_of}
 use Rattle.measure.specs.Angle.{angle_of, angle_rule, reached}
@@ -63,6 +63,6 @@ centroid_in_range a b c d p q r s =
     rw four (bounded_position _ (quarter_bounded 1048576 (add binary32 (add binary32 (add binary32 a b) c) d) exact20 all))
 
 -- in reach the call gives the rule's angle
-pub angle_known : (dx dy : Float) → in_reach dx ≡ true → in_reach dy ≡ true → angle_of dx dy ≡ Known (angle_rule dx dy)
+pub angle_known : (dx dy : Float) → in_reach dx ≡ true → in_reach dy ≡ true → angle_of dx dy ≡ Ok (angle_rule dx dy)
 unfolding angle_of reached
 angle_known dx dy p q = rw (p, q)

@@ -1,4 +1,6 @@
 -- `root_of`, which computes, is an answer of the Root rule, and so the only one. Assumes nothing.
+use Rattle.std.specs.Prelude.{Result}
+use Rattle.refusal.specs.declared.Refusal.{Refusal}
 use mathlib.Core.Path.{◌≡◌, refl, sym, ap, ◌∙◌, subst}
 use mathlib.Core.Bool.{Bool, true, false, cond}
 use Prim.Native.Nat.{ℕ, zero, suc, zero-le, ◌+◌, ◌-◌, ◌*◌, ◌^◌, ◌≤◌, ◌<◌}
@@ -11,7 +13,6 @@ use lib.Pow.{pow_pos}
 use lib.Ieee.Bits.{of_bits-to_bits}
 use lib.Ieee.Exact.{HasValue}
 use lib.Ieee.Positive.{positive, value_pos}
-use Rattle.measure.specs.declared.Measured.{Measured}
 use Rattle.measure.specs.Pattern.{sig_of, exp_of, units}
 use Rattle.measure.specs.inner.RootSteps.{RootBits}
 use Rattle.measure.specs.Root.{units_of, RootOf}
@@ -111,5 +112,5 @@ root_of_rule (fin false (suc m) e) f =
     (of_bits binary32 (root_pattern (2 ^ 151 * units_of x)), refl, is_root x (root_pattern (2 ^ 151 * units_of x)) f p (subst (λ (n : ℕ). RootBits (2 ^ 151 * units b) (root_pattern (2 ^ 151 * n))) (sym u) (pattern_is b (positive_units x f p) (positive_bits x f p).1)))
 
 -- an answer of the rule is the function's
-pub root_only : (x : Float) (r : Measured) → T (fits binary32 x) → RootOf x r → r ≡ root_of x
+pub root_only : (x : Float) (r : Result Float Refusal) → T (fits binary32 x) → RootOf x r → r ≡ root_of x
 root_only x r f h = determined x r (root_of x) f h (root_of_rule x f)

@@ -1,4 +1,6 @@
 -- The Root rule: what the code's cases give, and that the rule leaves one answer. Assumes nothing.
+use Rattle.std.specs.Prelude.{Result, Ok, Err}
+use Rattle.refusal.specs.declared.Refusal.{Refusal}
 use mathlib.Core.Path.{◌≡◌, refl, sym, ap, ◌∙◌, subst}
 use mathlib.Core.Bool.{Bool, true, false, false≢true}
 use Prim.Native.Nat.{ℕ, zero, suc, ◌+◌, ◌-◌, ◌*◌, ◌%◌, ◌^◌, ◌≤◌, ◌<◌}
@@ -10,8 +12,6 @@ use lib.Pow.{pow_pos}
 use lib.Ieee.{Float, nan, inf, fin, binary32, of_bits, to_bits, fits, eq}
 use lib.Ieee.Bits.{of_bits-to_bits, of_bits-fits}
 use lib.Ieee.Positive.{positive, positive_of_value}
-use Rattle.measure.specs.declared.Measured.{Measured}
-use Rattle.measure.specs.declared.Measured.TheVariants.{Known, Refused}
 use Rattle.refusal.specs.declared.Refusal.TheVariants.{OutOfRange}
 use Rattle.measure.specs.Pattern.{exp_of, units}
 use Rattle.measure.specs.inner.RootSteps.{RootBits}
@@ -45,21 +45,21 @@ is_root x r f p w =
 
 -- ---- the rule's cases
 
-pub positive_case : (x y : Float) → T (positive x) → IsRoot x y → RootOf x (Known y)
+pub positive_case : (x y : Float) → T (positive x) → IsRoot x y → RootOf x (Ok y)
 positive_case nan y p h = absurd p
 positive_case (inf t) y p h = absurd p
 positive_case (fin true m e) y p h = absurd p
 positive_case (fin false zero e) y p h = absurd p
 positive_case (fin false (suc m) e) y p h = (y, refl, h)
 
-pub zero_case : (x : Float) → eq x (of_bits binary32 0) ≡ true → RootOf x (Known x)
+pub zero_case : (x : Float) → eq x (of_bits binary32 0) ≡ true → RootOf x (Ok x)
 unfolding eq of_bits
 zero_case nan h = absurd (false≢true h)
 zero_case (inf t) h = absurd (false≢true h)
 zero_case (fin s zero e) h = refl
 zero_case (fin s (suc m) e) h = absurd (false≢true (sym (eq_some s m e) ∙ h))
 
-pub refused_case : (x : Float) → eq x (of_bits binary32 0) ≡ false → positive x ≡ false → RootOf x (Refused (OutOfRange 0))
+pub refused_case : (x : Float) → eq x (of_bits binary32 0) ≡ false → positive x ≡ false → RootOf x (Err (OutOfRange 0))
 refused_case nan h p = refl
 refused_case (inf t) h p = refl
 refused_case (fin s zero e) h p = absurd (false≢true (sym h ∙ eq_none s e))
@@ -102,9 +102,9 @@ same_float x y z fx px ry rz = go (ltb (to_bits binary32 y) (to_bits binary32 z)
         let same : to_bits binary32 y ≡ to_bits binary32 z = omega (arith, ltb-false (to_bits binary32 y) (to_bits binary32 z) e, ltb-false (to_bits binary32 z) (to_bits binary32 y) f) in
         sym (of_bits-to_bits binary32 y ry.held) ∙ ap (of_bits binary32) same ∙ of_bits-to_bits binary32 z rz.held
 
-pub determined : (x : Float) (r s : Measured) → T (fits binary32 x) → RootOf x r → RootOf x s → r ≡ s
+pub determined : (x : Float) (r s : Result Float Refusal) → T (fits binary32 x) → RootOf x r → RootOf x s → r ≡ s
 determined nan r s f p q = p ∙ sym q
 determined (inf t) r s f p q = p ∙ sym q
 determined (fin t zero e) r s f p q = p ∙ sym q
 determined (fin true (suc m) e) r s f p q = p ∙ sym q
-determined (fin false (suc m) e) r s f p q = p.1 ∙ ap Known (same_float (fin false (suc m) e) p.0 q.0 f (lt→ltb 0 (suc m) (zero-lt-suc m)) p.2 q.2) ∙ sym q.1
+determined (fin false (suc m) e) r s f p q = p.1 ∙ ap Ok (same_float (fin false (suc m) e) p.0 q.0 f (lt→ltb 0 (suc m) (zero-lt-suc m)) p.2 q.2) ∙ sym q.1

@@ -1,11 +1,11 @@
 -- Document 01, "Angle": the port's rule in place of atan2, in single precision with one rounding each.
+use Rattle.std.specs.Prelude.{Result, Ok, Err}
+use Rattle.refusal.specs.declared.Refusal.{Refusal}
 use Rattle.std.specs.Prelude.{ℕ, Bool, true, false, cond, ◌&&◌, Float}
 use Rattle.std.specs.Float.Ieee as Ieee
 use Rattle.std.specs.Float.{binary32}
 use Rattle.measure.specs.Float.{bits, fraction, sign_of, abs_of}
 use Rattle.measure.specs.Position.{in_reach}
-use Rattle.measure.specs.declared.Measured.{Measured}
-use Rattle.measure.specs.declared.Measured.TheVariants.{Known, Refused}
 use Rattle.refusal.specs.declared.Refusal.TheVariants.{OutOfRange}
 
 -- p = ±1/n + w·p, each 1/n rounded once
@@ -60,9 +60,9 @@ unfoldable pub angle_rule : Float → Float → Float
 angle_rule dx dy = below_of (sign_of dy) (across_of (sign_of dx) (octant_of (abs_of dx) (abs_of dy)))
 
 -- the call: refusal 4 for a difference that is not finite or above 2,097,152 in magnitude
-unfoldable pub reached : Bool → Float → Measured
-reached true a = Known a
-reached false a = Refused (OutOfRange 0)
+unfoldable pub reached : Bool → Float → Result Float Refusal
+reached true a = Ok a
+reached false a = Err (OutOfRange 0)
 
-unfoldable pub angle_of : Float → Float → Measured
+unfoldable pub angle_of : Float → Float → Result Float Refusal
 angle_of dx dy = reached (in_reach dx && in_reach dy) (angle_rule dx dy)

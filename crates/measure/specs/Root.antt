@@ -1,12 +1,12 @@
 -- Document 01, "Root": the IEEE 754 square root stated over whole numbers, and not by the steps of the code.
+use Rattle.std.specs.Prelude.{Result, Ok, Err}
+use Rattle.refusal.specs.declared.Refusal.{Refusal}
 use Rattle.std.specs.Prelude.{◌≡◌, true, false, ℕ, zero, suc, ◌+◌, ◌*◌, ◌/◌, ◌^◌, ◌≤◌, ◌<◌, T, Float}
 use Rattle.std.specs.Float.Ieee as Ieee
 use Rattle.std.specs.Float.{nan, inf, fin, binary32}
 use Rattle.std.specs.Float.Ieee.{up, down}
 use Rattle.std.specs.Float.Ieee.Scale.{finite}
 use Rattle.std.specs.Float.Ieee.Positive.{positive}
-use Rattle.measure.specs.declared.Measured.{Measured}
-use Rattle.measure.specs.declared.Measured.TheVariants.{Known, Refused}
 use Rattle.refusal.specs.declared.Refusal.TheVariants.{OutOfRange}
 
 -- the whole multiple of 2^-149 that a finite float's magnitude is
@@ -43,9 +43,9 @@ pub record IsRoot (x y : Float) : Type 0 where
   pub high : 2 ^ 151 * units_of x ≤ (units_of y + b) * (units_of y + b)
 
 -- the call: refusal 4 for a value NaN, infinite or below zero; of 0 it is 0, and -0 gives -0
-abbrev pub RootOf : Float → Measured → Type 0
-RootOf nan r = r ≡ Refused (OutOfRange 0)
-RootOf (inf s) r = r ≡ Refused (OutOfRange 0)
-RootOf (fin s zero e) r = r ≡ Known (fin s zero e)
-RootOf (fin true (suc m) e) r = r ≡ Refused (OutOfRange 0)
-RootOf (fin false (suc m) e) r = (y : Float) × (r ≡ Known y) × IsRoot (fin false (suc m) e) y
+abbrev pub RootOf : Float → Result Float Refusal → Type 0
+RootOf nan r = r ≡ Err (OutOfRange 0)
+RootOf (inf s) r = r ≡ Err (OutOfRange 0)
+RootOf (fin s zero e) r = r ≡ Ok (fin s zero e)
+RootOf (fin true (suc m) e) r = r ≡ Err (OutOfRange 0)
+RootOf (fin false (suc m) e) r = (y : Float) × (r ≡ Ok y) × IsRoot (fin false (suc m) e) y

@@ -1,8 +1,8 @@
 -- Further worked examples, one at least for each branch of each rule. The answers are from outside: roots from the machine's own square
 -- root, angles and distances from the ruled Rust (oracle/, `oracle vectors numbers`), the rest plain arithmetic.
+use Rattle.std.specs.Prelude.{Some, None}
+use Rattle.std.specs.Prelude.{Ok, Err}
 use Rattle.std.specs.Prelude.{◌≡◌, true, false, ℕ}
-use Rattle.measure.specs.declared.Measured.TheVariants.{Known, Refused}
-use Rattle.measure.specs.declared.Distance.TheVariants as distance
 use Rattle.refusal.specs.declared.Refusal.TheVariants.{OutOfRange}
 use Rattle.measure.specs.Float.{bits, fraction}
 use Rattle.measure.specs.Length.{length_of}
@@ -13,22 +13,22 @@ use Rattle.measure.specs.RootComputed.{root_of}
 
 -- patterns in, pattern or refusal out
 abbrev Root : ℕ → ℕ → Type 0
-Root x y = root_of (bits x) ≡ Known (bits y)
+Root x y = root_of (bits x) ≡ Ok (bits y)
 
 abbrev NoRoot : ℕ → Type 0
-NoRoot x = root_of (bits x) ≡ Refused (OutOfRange 0)
+NoRoot x = root_of (bits x) ≡ Err (OutOfRange 0)
 
 abbrev Angle : ℕ → ℕ → ℕ → Type 0
-Angle dx dy a = angle_of (bits dx) (bits dy) ≡ Known (bits a)
+Angle dx dy a = angle_of (bits dx) (bits dy) ≡ Ok (bits a)
 
 abbrev NoAngle : ℕ → ℕ → Type 0
-NoAngle dx dy = angle_of (bits dx) (bits dy) ≡ Refused (OutOfRange 0)
+NoAngle dx dy = angle_of (bits dx) (bits dy) ≡ Err (OutOfRange 0)
 
 abbrev Apart : ℕ → ℕ → ℕ → Type 0
-Apart angle axis d = distance_of (bits angle) (bits axis) ≡ distance.Known (bits d)
+Apart angle axis d = distance_of (bits angle) (bits axis) ≡ Some (bits d)
 
 abbrev NoDistance : ℕ → ℕ → Type 0
-NoDistance angle axis = distance_of (bits angle) (bits axis) ≡ distance.Missing
+NoDistance angle axis = distance_of (bits angle) (bits axis) ≡ None
 
 pub record Worked : Type 0 where
   -- roots: both zeros, an exact one, the greatest subnormal and least normal, beside a square, the greatest float

@@ -8,8 +8,8 @@ ghost use Rattle.measure.specs.Length.{length_of};
 ghost use Rattle.measure.specs.Parameter.{parameter_row};
 ghost use Rattle.measure.specs.Position.{is_position, centroid_of};
 
-use crate::{Measured, octant, range};
-use refusal::{Gate, Refusal};
+use crate::{octant, range};
+use refusal::Refusal;
 
 pub fn is_nan(x: f32) -> bool
     ensures { result ≡ Ieee.is_nan x }
@@ -67,23 +67,20 @@ pub fn centroid(p0: f32, p1: f32, p2: f32, p3: f32) -> f32
 }
 
 // The length of the difference (dx, dy). Of differences of positions the root is known; of any other pair without a root this is 0.
+#[tactic(auto, unfolding(crate::specs::Length::length_of, crate::specs::Length::or_zero))]
 pub fn length(dx: f32, dy: f32) -> f32
     ensures { result ≡ length_of dx dy }
 {
-    let answer = crate::root(dx * dx + dy * dy);
-    match answer {
-        Measured::Known(y) => y,
-        Measured::Refused(_) => 0.0,
-    }
+    crate::root(dx * dx + dy * dy).unwrap_or(0.0)
 }
 
 // Row 3 for one parameter: its number is the place.
-pub fn parameter_row(parameter: f32, number: u32) -> Gate
+pub fn parameter_row(parameter: f32, number: u32) -> Result<(), Refusal>
     ensures { result ≡ parameter_row parameter number }
 {
     if is_nan(parameter) {
-        Gate::Shut(Refusal::ParameterNan(number))
+        Err(Refusal::ParameterNan(number))
     } else {
-        Gate::Open
+        Ok(())
     }
 }

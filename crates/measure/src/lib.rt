@@ -17,55 +17,41 @@ mod range;
 mod root_pattern;
 mod turn;
 
-// A number, or why there is none.
-#[derive(Drop)]
-pub enum Measured {
-    Known(f32),
-    Refused(Refusal),
-}
-
-// How far an angle is from an axis: a number, or none.
-#[derive(Drop)]
-pub enum Distance {
-    Missing,
-    Known(f32),
-}
-
 // The IEEE 754 square root of x: nearest, subnormals included, -0 of -0.
-pub fn root(x: f32) -> Measured
+pub fn root(x: f32) -> Result<f32, Refusal>
     ensures rule { RootOf x result }
     ensures only { result ≡ root_of x }
 {
     if x == 0.0 {
-        return Measured::Known(x);
+        return Ok(x);
     }
     if range::is_positive(x) {
-        return Measured::Known(f32::from_bits(root_pattern::root_bits(f32::to_bits(x))));
+        return Ok(f32::from_bits(root_pattern::root_bits(f32::to_bits(x))));
     }
-    Measured::Refused(Refusal::OutOfRange(0))
+    Err(Refusal::OutOfRange(0))
 }
 
 // The angle of the difference (dx, dy) by document 01's rule.
-pub fn angle(dx: f32, dy: f32) -> Measured
+pub fn angle(dx: f32, dy: f32) -> Result<f32, Refusal>
     ensures { result ≡ angle_of dx dy }
 {
     if !range::in_reach(dx) {
-        return Measured::Refused(Refusal::OutOfRange(0));
+        return Err(Refusal::OutOfRange(0));
     }
     if !range::in_reach(dy) {
-        return Measured::Refused(Refusal::OutOfRange(0));
+        return Err(Refusal::OutOfRange(0));
     }
-    Measured::Known(inner::angle_rule(dx, dy))
+    Ok(inner::angle_rule(dx, dy))
 }
 
 // How far an angle is from an undirected axis: from 0 to a quarter turn.
-pub fn axis_distance(angle: f32, axis: f32) -> Distance
+pub fn axis_distance(angle: f32, axis: f32) -> Option<f32>
     ensures { result ≡ distance_of angle axis }
 {
     let d = turn::fold(turn::lift(turn::rest(angle - axis)));
     if inner::is_finite(d) {
-        Distance::Known(d)
+        Some(d)
     } else {
-        Distance::Missing
+        None
     }
 }

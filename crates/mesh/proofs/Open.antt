@@ -8,7 +8,7 @@ use borrow.Author.Tests.{eqb-true, ne_eqb, ltb-false, leb-false, not-false}
 use lib.Dec.{eqb, ltb}
 use lib.Ieee.{Float, nan}
 use lib.ListN.{length, get_or}
-use Rattle.refusal.specs.declared.Gate.TheVariants.{Open}
+use Rattle.std.specs.Prelude.{Ok}
 use Rattle.refusal.specs.declared.Refusal.TheVariants.{Unpaired, OverLimit, WorkspaceShort, OutOfRange, NoSuchCorner, CornerTwice}
 use Rattle.refusal.proofs.Rows.{open_if, open_clear}
 use Rattle.measure.specs.Position.{is_position}
@@ -18,13 +18,13 @@ use Rattle.mesh.specs.Cells.{not_below, corners_row, names_twice, twice_row}
 use Rattle.mesh.specs.HalfEdge.{no_twin}
 use Rattle.mesh.specs.Twins.{past_end, points_back, runs_back, twin_offends, twin_fault, twins_row}
 
-pub paired_open : (a b : ℕ) → paired_row a b ≡ Open → a ≡ b
+pub paired_open : (a b : ℕ) → paired_row a b ≡ Ok tt → a ≡ b
 paired_open a b e = eqb-true a b (not-false (eqb a b) (open_if (not (eqb a b)) Unpaired e))
 
-pub limit_open : (count most : ℕ) → limit_row count most ≡ Open → count ≤ most
+pub limit_open : (count most : ℕ) → limit_row count most ≡ Ok tt → count ≤ most
 limit_open count most e = ltb-false most count (open_if (ltb most count) OverLimit e)
 
-pub work_open : (words wanted : ℕ) → work_row words wanted ≡ Open → wanted ≤ words
+pub work_open : (words wanted : ℕ) → work_row words wanted ≡ Ok tt → wanted ≤ words
 work_open words wanted e = ltb-false words wanted (open_if (ltb words wanted) (WorkspaceShort wanted) e)
 
 both_true : (a b : Bool) → not (a && b) ≡ false → (a ≡ true) × (b ≡ true)
@@ -32,19 +32,19 @@ both_true true true e = (refl, refl)
 both_true true false e = absurd (false≢true (sym e))
 both_true false b e = absurd (false≢true (sym e))
 
-pub positions_open : (xs ys : List Float) → positions_row xs ys ≡ Open → (k : ℕ) → k < length xs → (is_position (get_or xs k nan) ≡ true) × (is_position (get_or ys k nan) ≡ true)
+pub positions_open : (xs ys : List Float) → positions_row xs ys ≡ Ok tt → (k : ℕ) → k < length xs → (is_position (get_or xs k nan) ≡ true) × (is_position (get_or ys k nan) ≡ true)
 unfolding positions_row misplaced
 positions_open xs ys e k h = both_true _ _ (open_clear (misplaced xs ys) (length xs) OutOfRange e k h)
 
-pub corners_open : (n : ℕ) (cells : List ℕ) → corners_row n cells ≡ Open → (k : ℕ) → k < length cells → get_or cells k 0 < n
+pub corners_open : (n : ℕ) (cells : List ℕ) → corners_row n cells ≡ Ok tt → (k : ℕ) → k < length cells → get_or cells k 0 < n
 unfolding corners_row not_below
 corners_open n cells e k h = leb-false n (get_or cells k 0) (open_clear (not_below n cells) (length cells) NoSuchCorner e k h)
 
-pub twice_open : (size : ℕ) (cells : List ℕ) → twice_row size cells ≡ Open → (r : ℕ) → r < length cells / size → names_twice size cells r ≡ false
+pub twice_open : (size : ℕ) (cells : List ℕ) → twice_row size cells ≡ Ok tt → (r : ℕ) → r < length cells / size → names_twice size cells r ≡ false
 unfolding twice_row
 twice_open size cells e r h = open_clear (names_twice size cells) (length cells / size) CornerTwice e r h
 
-pub twins_open : (triangles twins : List ℕ) → twins_row triangles twins ≡ Open → (e : ℕ) → e < length twins → twin_offends triangles twins e ≡ false
+pub twins_open : (triangles twins : List ℕ) → twins_row triangles twins ≡ Ok tt → (e : ℕ) → e < length twins → twin_offends triangles twins e ≡ false
 unfolding twins_row
 twins_open triangles twins o e h = open_clear (twin_offends triangles twins) (length twins) (twin_fault twins) o e h
 

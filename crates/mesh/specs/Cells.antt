@@ -1,8 +1,7 @@
 -- Rows 5 and 6, over records of 3 or 4 corners alike: a corner that does not exist, a class above 2, a corner named twice.
 use Rattle.std.specs.Prelude.{Bool, false, ◌||◌, List, ℕ, zero, suc, ◌+◌, ◌*◌, ◌/◌, eqb, leb, length, get_or}
-use Rattle.refusal.specs.declared.Gate.{Gate}
 use Rattle.refusal.specs.declared.Refusal.TheVariants.{NoSuchCorner, NoSuchClass, CornerTwice}
-use Rattle.refusal.specs.Rows.{refuse_first}
+use Rattle.refusal.specs.Rows.{Gate, refuse_first}
 
 -- the word at k is not below the count of what there is
 unfoldable pub not_below : ℕ → List ℕ → ℕ → Bool

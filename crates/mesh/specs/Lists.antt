@@ -1,8 +1,7 @@
 -- Rows 1, 2 and 8: lengths that belong together, lists of whole records, counts within their limits, and a workspace that is long enough.
 use Rattle.std.specs.Prelude.{ℕ, ◌+◌, ◌*◌, ◌%◌, not, eqb, ltb}
-use Rattle.refusal.specs.declared.Gate.{Gate}
 use Rattle.refusal.specs.declared.Refusal.TheVariants.{Unpaired, OverLimit, WorkspaceShort}
-use Rattle.refusal.specs.Rows.{refuse_if}
+use Rattle.refusal.specs.Rows.{Gate, refuse_if}
 
 -- a list of length a has a slot for each of b
 abbrev pub paired_row : ℕ → ℕ → Gate

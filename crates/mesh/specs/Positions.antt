@@ -2,9 +2,8 @@
 use Rattle.std.specs.Prelude.{Bool, not, ◌&&◌, List, ℕ, Float, length, get_or}
 use Rattle.std.specs.Float.{nan}
 use Rattle.measure.specs.Position.{is_position}
-use Rattle.refusal.specs.declared.Gate.{Gate}
 use Rattle.refusal.specs.declared.Refusal.TheVariants.{OutOfRange}
-use Rattle.refusal.specs.Rows.{refuse_first}
+use Rattle.refusal.specs.Rows.{Gate, refuse_first}
 
 unfoldable pub misplaced : List Float → List Float → ℕ → Bool
 misplaced xs ys k = not (is_position (get_or xs k nan) && is_position (get_or ys k nan))

@@ -1,10 +1,9 @@
 -- Row 7: a twin that is neither "none" nor in range, whose own twin is not this half-edge, or that does not run between the same
 -- corners the other way. The three faults are tried in that order at a half-edge.
 use Rattle.std.specs.Prelude.{Bool, false, not, cond, ◌&&◌, ◌||◌, List, ℕ, eqb, leb, length, get_or}
-use Rattle.refusal.specs.declared.Gate.{Gate}
 use Rattle.refusal.specs.declared.Refusal.{Refusal}
 use Rattle.refusal.specs.declared.Refusal.TheVariants.{TwinPastEnd, TwinNotBack, TwinElsewhere}
-use Rattle.refusal.specs.Rows.{refuse_first}
+use Rattle.refusal.specs.Rows.{Gate, refuse_first}
 use Rattle.mesh.specs.HalfEdge.{start_of, end_of, no_twin}
 
 -- w is past the end of the list

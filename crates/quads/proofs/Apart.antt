@@ -1,4 +1,6 @@
 -- Two quads have no triangle in common, and each quad has four different corners that exist. Assumes nothing.
+use Rattle.std.specs.Prelude.{Option, None}
+use Rattle.std.specs.Prelude.{Some}
 use mathlib.Core.Path.{◌≡◌, refl, sym, ap, ◌∙◌, subst}
 use mathlib.Core.Bool.{true, false, or-true, false≢true}
 use mathlib.Core.List.Memᴰ
@@ -18,9 +20,6 @@ use Rattle.mesh.specs.HalfEdge.{triangle_of}
 use Rattle.mesh.specs.Cells.{names_twice}
 use Rattle.mesh.proofs.Open.{twin_sound}
 use Rattle.mesh.proofs.Differ.{corners_differ}
-use Rattle.quads.specs.declared.Found.TheVariants.{At}
-use Rattle.quads.specs.declared.Pairing.{Pairing}
-use Rattle.quads.specs.declared.Pairing.TheVariants.{Alone, Four}
 use Rattle.quads.specs.declared.Quad.{Quad}
 use Rattle.quads.specs.Diagonal.{only_at}
 use Rattle.quads.specs.Union.{corners_of, is_in}
@@ -52,7 +51,7 @@ points_back_lem i s t q h p =
 partner_makes_none : (i : Input) → Sound i → (t u : ℕ) (q r : Quad) → 3 * t + 2 < length i.mesh.triangles → (p : Pair i.mesh t q) → Pair i.mesh u r → partner p ≡ u → ⊥
 partner_makes_none i s t u q r h p o e =
     let own = only_own i.mesh.classes t p.side p.own in
-    let same : At (get_or i.mesh.twins p.side 0) ≡ At o.side = sym p.other ∙ ap (only_at i.mesh.classes) e ∙ o.own in
+    let same : Some (get_or i.mesh.twins p.side 0) ≡ Some o.side = sym p.other ∙ ap (only_at i.mesh.classes) e ∙ o.own in
     let side : get_or i.mesh.twins p.side 0 ≡ o.side = cc in
     let back : get_or i.mesh.twins o.side 0 ≡ p.side = ap (λ (w : ℕ). get_or i.mesh.twins w 0) (sym side) ∙ points_back_lem i s t q h p in
     let low : u < triangle_of p.side = rw back at o.higher in
@@ -64,7 +63,7 @@ same_partner : (i : Input) → Sound i → (t u : ℕ) (q r : Quad) → 3 * t + 
     → (p : Pair i.mesh t q) (o : Pair i.mesh u r) → partner p ≡ partner o → t ≡ u
 same_partner i s t u q r ht hu p o e =
     let twins = i.mesh.twins in
-    let same : At (get_or twins p.side 0) ≡ At (get_or twins o.side 0) = sym p.other ∙ ap (only_at i.mesh.classes) e ∙ o.other in
+    let same : Some (get_or twins p.side 0) ≡ Some (get_or twins o.side 0) = sym p.other ∙ ap (only_at i.mesh.classes) e ∙ o.other in
     let twin : get_or twins p.side 0 ≡ get_or twins o.side 0 = cc in
     let side : p.side ≡ o.side = sym (points_back_lem i s t q ht p) ∙ ap (λ (w : ℕ). get_or twins w 0) twin ∙ points_back_lem i s u r hu o in
     let mine = only_own i.mesh.classes t p.side p.own in
@@ -132,7 +131,7 @@ union_differs triangles t u q P clear c = each_new q new
         go (yes y) = triangle_differs triangles t j k clear l y (sym (own j (omega arith)) ∙ e ∙ own k y)
         go (no y) = let three : k ≡ 3 = omega arith in last j (omega arith) (e ∙ ap (corner_at q) three)
 
-union_different : (i : Input) → Sound i → (t : ℕ) (q : Quad) → 3 * t + 2 < length i.mesh.triangles → paired_at i.mesh t ≡ Four q → Different q
+union_different : (i : Input) → Sound i → (t : ℕ) (q : Quad) → 3 * t + 2 < length i.mesh.triangles → paired_at i.mesh t ≡ Some q → Different q
 union_different i s t q h e =
     let p = paired i.mesh t q e in
     let any : ℕ → Type 0 = λ d. Unit {0} in
@@ -163,7 +162,7 @@ unfolding turned_from
 turned_in c q n e = record { a = corner_in_lem c q e (n % 4); b = corner_in_lem c q e ((n + 1) % 4); c = corner_in_lem c q e ((n + 2) % 4); d = corner_in_lem c q e ((n + 3) % 4) }
 
 -- the quad that t makes has four different corners that exist
-pub four_different : (i : Input) → Sound i → (t : ℕ) (q : Quad) → 3 * t + 2 < length i.mesh.triangles → paired_at i.mesh t ≡ Four q
+pub four_different : (i : Input) → Sound i → (t : ℕ) (q : Quad) → 3 * t + 2 < length i.mesh.triangles → paired_at i.mesh t ≡ Some q
     → Different (order_of i.xs i.ys q) × Exist (length i.xs) (order_of i.xs i.ys q)
 unfolding order_of
 four_different i s t q h e = (
@@ -174,15 +173,15 @@ four_different i s t q h e = (
 -- ---- every quad of the merged list
 
 -- what every quad that a triangle below t makes has, every quad made so far has
-pub made_have : (i : Input) (P : Quad → Type 0) (t : ℕ) → ((k : ℕ) (q : Quad) → k < t → paired_at i.mesh k ≡ Four q → P (order_of i.xs i.ys q)) → (q : Quad) → Memᴰ q (quads_to i t) → P q
+pub made_have : (i : Input) (P : Quad → Type 0) (t : ℕ) → ((k : ℕ) (q : Quad) → k < t → paired_at i.mesh k ≡ Some q → P (order_of i.xs i.ys q)) → (q : Quad) → Memᴰ q (quads_to i t) → P q
 unfolding quads_to
 made_have i P zero each q m = absurd (Memᴰ.not-nil m)
 made_have i P (suc t) each q m = go (λ n. made_have i P t (λ k r l e. each k r (omega arith) e) q n) (paired_at i.mesh t) refl (Memᴰ.append_cases (quads_to i t) m)
   where
-    go : (Memᴰ q (quads_to i t) → P q) → (p : Pairing) → paired_at i.mesh t ≡ p → Memᴰ q (quads_to i t) ⊎ Memᴰ q (made_by i p) → P q
+    go : (Memᴰ q (quads_to i t) → P q) → (p : Option Quad) → paired_at i.mesh t ≡ p → Memᴰ q (quads_to i t) ⊎ Memᴰ q (made_by i p) → P q
     go before p e (inl m) = before m
-    go before Alone e (inr m) = absurd (Memᴰ.not-nil m)
-    go before (Four r) e (inr m) = subst P (sym (Memᴰ.eq_of_singleton m)) (each t r (omega arith) e)
+    go before None e (inr m) = absurd (Memᴰ.not-nil m)
+    go before (Some r) e (inr m) = subst P (sym (Memᴰ.eq_of_singleton m)) (each t r (omega arith) e)
 
 -- each of them has four different corners that exist
 pub all_different : (i : Input) → Sound i → (q : Quad) → Memᴰ q (merged_of i) → Different q × Exist (length i.xs) q

@@ -1,4 +1,5 @@
 -- Laws of the quads made so far: how they grow, how many they are, and the list that holds them at its front. Assumes nothing.
+use Rattle.std.specs.Prelude.{Option, Some, None}
 use mathlib.Core.Path.{◌≡◌, refl, sym, ap, ◌∙◌, subst}
 use mathlib.Core.Bool.{Bool, true, false, false≢true}
 use mathlib.Core.List.{List, [], ◌∷◌, ◌++◌, append-nil, append_assoc}
@@ -9,8 +10,6 @@ use native.Mathlib.Omega.{arith}
 use lib.ListN.{length, get_or, take, drop, length-append, length-drop}
 use lib.Seq.{take_at, drop-append-add, drop-drop, get_or-append-add, get_or-drop}
 use Rattle.words.specs.Sorting.{one}
-use Rattle.quads.specs.declared.Pairing.{Pairing}
-use Rattle.quads.specs.declared.Pairing.TheVariants.{Alone, Four}
 use Rattle.quads.specs.declared.Quad.{Quad}
 use Rattle.quads.specs.Merge.{Mesh, Input, paired_at, made_by, quads_to}
 use Rattle.quads.specs.inner.Merging.{is_four, count_to}
@@ -26,9 +25,9 @@ count_more m t e = rw (add-one t, e)
 
 -- ---- a triangle that makes none adds none
 
-none_made : (i : Input) (p : Pairing) → is_four p ≡ false → made_by i p ≡ []
-none_made i Alone e = refl
-none_made i (Four q) e = absurd (false≢true (sym e))
+none_made : (i : Input) (p : Option Quad) → is_four p ≡ false → made_by i p ≡ []
+none_made i None e = refl
+none_made i (Some q) e = absurd (false≢true (sym e))
 
 passed_by : (i : Input) (t d : ℕ) → ((k : ℕ) → t ≤ k → k < t + d → is_four (paired_at i.mesh k) ≡ false) → quads_to i (t + d) ≡ quads_to i t
 unfolding quads_to
@@ -54,10 +53,10 @@ count_passed m t r h f =
 
 -- ---- how many they are
 
-one_made : (i : Input) (p : Pairing) → length (made_by i p) ≡ one (is_four p)
+one_made : (i : Input) (p : Option Quad) → length (made_by i p) ≡ one (is_four p)
 unfolding one
-one_made i Alone = refl
-one_made i (Four q) = refl
+one_made i None = refl
+one_made i (Some q) = refl
 
 pub count_is : (i : Input) (t : ℕ) → count_to i.mesh t ≡ length (quads_to i t)
 unfolding count_to quads_to

@@ -5,24 +5,23 @@ use Prim.Native.Nat.{ℕ, ◌*◌, ◌/◌, ◌≤◌, ◌<◌}
 use borrow.Author.Tests.{lt-ltb, le-ltb}
 use native.Mathlib.Omega.{arith}
 use lib.ListN.{length, drop}
-use Rattle.refusal.specs.declared.Gate.{Gate}
-use Rattle.refusal.specs.declared.Gate.TheVariants.{Open, Shut}
+use Rattle.refusal.specs.Rows.{Gate}
+use Rattle.std.specs.Prelude.{Ok, Err}
 use Rattle.refusal.specs.declared.Refusal.{Refusal}
 use Rattle.refusal.specs.declared.Refusal.TheVariants.{RecordsShort}
-use Rattle.quads.specs.declared.Merged.TheVariants.{Done, Refused}
 use Rattle.quads.specs.Merge.{Input, merged_of}
 use Rattle.quads.specs.Call.{gate_of, words_of, Outcome, call_of}
 
 module _ (i : Input) (quads : List ℕ) (g : Gate) (judged : g ≡ gate_of i) where
-  pub refused : (why : Refusal) → g ≡ Shut why → ◌≡◌ {A = Outcome} (record { answer = Refused why; quads = quads }) (call_of i quads)
+  pub refused : (why : Refusal) → g ≡ Err why → ◌≡◌ {A = Outcome} (record { answer = Err why; quads = quads }) (call_of i quads)
   unfolding call_of
   refused why e = rw (← judged, e)
 
-  pub short : (n : ℕ) → g ≡ Open → n ≡ length (merged_of i) → length quads / 4 < n → ◌≡◌ {A = Outcome} (record { answer = Refused (RecordsShort n); quads = quads }) (call_of i quads)
+  pub short : (n : ℕ) → g ≡ Ok tt → n ≡ length (merged_of i) → length quads / 4 < n → ◌≡◌ {A = Outcome} (record { answer = Err (RecordsShort n); quads = quads }) (call_of i quads)
   unfolding call_of
   short n e c h = rw (← judged, e, ← c, lt-ltb (length quads / 4) n h)
 
-  pub done : (n : ℕ) (after : List ℕ) → g ≡ Open → n ≡ length (merged_of i) → n ≤ length quads / 4 → after ≡ words_of (merged_of i) ++ drop (4 * length (merged_of i)) quads
-      → ◌≡◌ {A = Outcome} (record { answer = Done n; quads = after }) (call_of i quads)
+  pub done : (n : ℕ) (after : List ℕ) → g ≡ Ok tt → n ≡ length (merged_of i) → n ≤ length quads / 4 → after ≡ words_of (merged_of i) ++ drop (4 * length (merged_of i)) quads
+      → ◌≡◌ {A = Outcome} (record { answer = Ok n; quads = after }) (call_of i quads)
   unfolding call_of
   done n after e c h f = rw (← judged, e, f, c, le-ltb (length quads / 4) (length (merged_of i)) (omega (arith, c, h)))

@@ -1,4 +1,5 @@
 -- What the search over three sides has seen tells the only diagonal. Assumes nothing.
+use Rattle.std.specs.Prelude.{Option, Some, None}
 use mathlib.Core.Path.{◌≡◌, refl, ap}
 use mathlib.Core.Bool.{Bool, true, false, cond, ◌&&◌}
 use mathlib.Core.List.{List}
@@ -10,8 +11,6 @@ use borrow.Author.Tests.{lt-ltb, le-ltb}
 use lib.Dec.{ltb}
 use Rattle.classify.specs.declared.Class.{Class}
 use Rattle.classify.specs.declared.Class.TheVariants.{Spurious, Grid, Diagonal}
-use Rattle.quads.specs.declared.Found.{Found}
-use Rattle.quads.specs.declared.Found.TheVariants.{Nowhere, At}
 use Rattle.quads.specs.Diagonal.{is_grid, is_diagonal, only_by, only_at, side_class}
 use Rattle.quads.specs.inner.Search.{step_of, seen_of}
 
@@ -37,8 +36,8 @@ stopped_at classes base k n h e = let s : k + (n - k) ≡ n = omega arith in rw 
 
 -- ---- what has been seen of three sides
 
-found_from : ℕ → ℕ → Found
-found_from base seen = cond (ltb seen 3) (At (base + seen)) Nowhere
+found_from : ℕ → ℕ → Option ℕ
+found_from base seen = cond (ltb seen 3) (Some (base + seen)) None
 
 only_scan : (base : ℕ) (a b c : Class) → found_from base (step_of (step_of (step_of 3 0 a) 1 b) 2 c) ≡ only_by base a b c
 unfolding found_from only_by step_of
@@ -64,7 +63,7 @@ only_scan base Diagonal Spurious Spurious = refl
 only_scan base Diagonal Spurious Grid = refl
 only_scan base Diagonal Spurious Diagonal = refl
 only_scan base Diagonal Grid Spurious = refl
-only_scan base Diagonal Grid Grid = ap At (add-zero base)
+only_scan base Diagonal Grid Grid = ap Some (add-zero base)
 only_scan base Diagonal Grid Diagonal = refl
 only_scan base Diagonal Diagonal Spurious = refl
 only_scan base Diagonal Diagonal Grid = refl
@@ -74,23 +73,23 @@ by_seen : (classes : List ℕ) (t : ℕ) → found_from (3 * t) (seen_of classes
 unfolding seen_of only_at
 by_seen classes t = rw (add-zero (3 * t)) (only_scan (3 * t) (side_class classes (3 * t)) (side_class classes (3 * t + 1)) (side_class classes (3 * t + 2)))
 
-pub seen_found : (classes : List ℕ) (t s : ℕ) → s ≡ seen_of classes (3 * t) 3 → s < 3 → At (3 * t + s) ≡ only_at classes t
+pub seen_found : (classes : List ℕ) (t s : ℕ) → s ≡ seen_of classes (3 * t) 3 → s < 3 → Some (3 * t + s) ≡ only_at classes t
 unfolding found_from
 seen_found classes t s e h = rw (← e, lt-ltb s 3 h) at (by_seen classes t)
 
-pub seen_nowhere : (classes : List ℕ) (t s : ℕ) → s ≡ seen_of classes (3 * t) 3 → 3 ≤ s → Nowhere ≡ only_at classes t
+pub seen_nowhere : (classes : List ℕ) (t s : ℕ) → s ≡ seen_of classes (3 * t) 3 → 3 ≤ s → None ≡ only_at classes t
 unfolding found_from
 seen_nowhere classes t s e h = rw (← e, le-ltb s 3 h) at (by_seen classes t)
 
 -- ---- an only diagonal is one of the triangle's half-edges
 
-picked : (base e : ℕ) (p q r : Bool) → cond p (At base) (cond q (At (base + 1)) (cond r (At (base + 2)) Nowhere)) ≡ At e → (base ≤ e) × (e < base + 3)
+picked : (base e : ℕ) (p q r : Bool) → cond p (Some base) (cond q (Some (base + 1)) (cond r (Some (base + 2)) None)) ≡ Some e → (base ≤ e) × (e < base + 3)
 picked base e true q r h = let s : base ≡ e = cc in (omega arith, omega arith)
 picked base e false true r h = let s : base + 1 ≡ e = cc in (omega arith, omega arith)
 picked base e false false true h = let s : base + 2 ≡ e = cc in (omega arith, omega arith)
 picked base e false false false h = let z : ◌≡◌ {A = ℕ} 0 1 = cc in absurd (omega arith)
 
-pub only_own : (classes : List ℕ) (t e : ℕ) → only_at classes t ≡ At e → (3 * t ≤ e) × (e < 3 * t + 3)
+pub only_own : (classes : List ℕ) (t e : ℕ) → only_at classes t ≡ Some e → (3 * t ≤ e) × (e < 3 * t + 3)
 unfolding only_at only_by
 only_own classes t e h =
     let a = side_class classes (3 * t) in

@@ -1,5 +1,6 @@
 -- The quads are at most a sixth of the half-edges: give each triangle the lower of itself and the one across its only diagonal; a
 -- triangle that makes a quad is given twice, to itself and to its partner, so the quads are at most half of the triangles. Assumes nothing.
+use Rattle.std.specs.Prelude.{Option, Some, None}
 use mathlib.Core.Path.{◌≡◌, refl}
 use mathlib.Core.Bool.{cond}
 use Prim.Native.Nat.{ℕ, zero, suc, ◌+◌, ◌*◌, ◌≤◌, ◌<◌}
@@ -12,10 +13,6 @@ use Rattle.words.specs.Sorting.{one, equal, below}
 use Rattle.words.proofs.Rank.{equal_yes, equal_mono, below_step, below_le}
 use Rattle.mesh.specs.HalfEdge.{triangle_of}
 use Rattle.mesh.proofs.Open.{twin_sound}
-use Rattle.quads.specs.declared.Found.{Found}
-use Rattle.quads.specs.declared.Found.TheVariants.{Nowhere, At}
-use Rattle.quads.specs.declared.Pairing.{Pairing}
-use Rattle.quads.specs.declared.Pairing.TheVariants.{Alone, Four}
 use Rattle.quads.specs.declared.Quad.{Quad}
 use Rattle.quads.specs.Diagonal.{only_at}
 use Rattle.quads.specs.Merge.{Mesh, Input, triangle_count, paired_at, merged_of}
@@ -33,9 +30,9 @@ two_equal key n i j v h l a b =
 
 -- ---- what a triangle is given: the lower of itself and the one across its only diagonal
 
-lower_across : Mesh → ℕ → Found → ℕ
-lower_across m t Nowhere = t
-lower_across m t (At e) = cond (ltb t (triangle_of (get_or m.twins e 0))) t (triangle_of (get_or m.twins e 0))
+lower_across : Mesh → ℕ → Option ℕ → ℕ
+lower_across m t None = t
+lower_across m t (Some e) = cond (ltb t (triangle_of (get_or m.twins e 0))) t (triangle_of (get_or m.twins e 0))
 
 lower : Mesh → ℕ → ℕ
 lower m t = lower_across m t (only_at m.classes t)
@@ -54,7 +51,7 @@ lower_other m t q p back =
 
 -- ---- a triangle that makes a quad is given twice
 
-two_lower : (i : Input) → Sound i → (t : ℕ) (q : Quad) → t < triangle_count i.mesh → paired_at i.mesh t ≡ Four q → 2 ≤ equal (lower i.mesh) (triangle_count i.mesh) t
+two_lower : (i : Input) → Sound i → (t : ℕ) (q : Quad) → t < triangle_count i.mesh → paired_at i.mesh t ≡ Some q → 2 ≤ equal (lower i.mesh) (triangle_count i.mesh) t
 two_lower i s t q h e =
     let m = i.mesh in
     let p = paired m t q e in
@@ -72,9 +69,9 @@ count_lower i s (suc t) h = rw (← add-one t) (go (paired_at i.mesh t) refl (co
     n : ℕ
     n = triangle_count i.mesh
 
-    go : (p : Pairing) → paired_at i.mesh t ≡ p → 2 * count_to i.mesh t ≤ below (lower i.mesh) n t → 2 * (count_to i.mesh t + one (is_four p)) ≤ below (lower i.mesh) n (t + 1)
-    go Alone e ih = omega (arith, below_step (lower i.mesh) t n)
-    go (Four q) e ih = omega (arith, below_step (lower i.mesh) t n, two_lower i s t q (omega arith) e)
+    go : (p : Option Quad) → paired_at i.mesh t ≡ p → 2 * count_to i.mesh t ≤ below (lower i.mesh) n t → 2 * (count_to i.mesh t + one (is_four p)) ≤ below (lower i.mesh) n (t + 1)
+    go None e ih = omega (arith, below_step (lower i.mesh) t n)
+    go (Some q) e ih = omega (arith, below_step (lower i.mesh) t n, two_lower i s t q (omega arith) e)
 
 pub at_most_a_sixth : (i : Input) → Sound i → 6 * length (merged_of i) ≤ length i.mesh.triangles
 unfolding merged_of

@@ -4,7 +4,7 @@ use mathlib.Core.Path.{◌≡◌}
 use mathlib.Core.Bool.{false}
 use Prim.Native.Nat.{ℕ, ◌%◌, ◌≤◌, ◌<◌}
 use lib.ListN.{length}
-use Rattle.refusal.specs.declared.Gate.TheVariants.{Open}
+use Rattle.std.specs.Prelude.{Ok}
 use Rattle.refusal.specs.Rows.{◌then◌}
 use Rattle.refusal.proofs.Rows.{open_both}
 use Rattle.mesh.specs.Lists.{paired_row, whole_row, limit_row}
@@ -24,7 +24,7 @@ pub record Paired (x y triangles twins classes : ℕ) : Type 0 where
   pub corners : x ≤ 4096
   pub edges : triangles ≤ 24576
 
-pub lengths_open : (x y t w c : ℕ) → lengths_gate x y t w c ≡ Open → Paired x y t w c
+pub lengths_open : (x y t w c : ℕ) → lengths_gate x y t w c ≡ Ok tt → Paired x y t w c
 unfolding lengths_gate
 lengths_open x y t w c e =
     let e1 = open_both (paired_row y x) _ e in
@@ -44,12 +44,12 @@ lengths_open x y t w c e =
 -- ---- rows 4 to 7
 
 record Rows (i : Input) : Type 0 where
-  positions : positions_row i.xs i.ys ≡ Open
-  corners : corners_row (length i.xs) i.mesh.triangles ≡ Open
-  twice : twice_row 3 i.mesh.triangles ≡ Open
-  twins : twins_row i.mesh.triangles i.mesh.twins ≡ Open
+  positions : positions_row i.xs i.ys ≡ Ok tt
+  corners : corners_row (length i.xs) i.mesh.triangles ≡ Ok tt
+  twice : twice_row 3 i.mesh.triangles ≡ Ok tt
+  twins : twins_row i.mesh.triangles i.mesh.twins ≡ Ok tt
 
-values_open : (i : Input) → values_gate i ≡ Open → Rows i
+values_open : (i : Input) → values_gate i ≡ Ok tt → Rows i
 unfolding values_gate
 values_open i e =
     let t = i.mesh.triangles in
@@ -61,7 +61,7 @@ values_open i e =
 
 -- ---- all rows
 
-pub gate_sound : (i : Input) → gate_of i ≡ Open → Sound i
+pub gate_sound : (i : Input) → gate_of i ≡ Ok tt → Sound i
 unfolding gate_of
 gate_sound i e =
     let both = open_both (lengths_gate (length i.xs) (length i.ys) (length i.mesh.triangles) (length i.mesh.twins) (length i.mesh.classes)) (values_gate i) e in

@@ -1,6 +1,6 @@
 -- What every quad that merging gives is: the corners of a triangle and of the one that it pairs with, in document 01's order.
+use Rattle.std.specs.Prelude.{Some}
 use Rattle.std.specs.Prelude.{◌≡◌, ℕ, ◌<◌}
-use Rattle.quads.specs.declared.Pairing.TheVariants.{Four}
 use Rattle.quads.specs.declared.Quad.{Quad}
 use Rattle.quads.specs.Merge.{Input, triangle_count, paired_at}
 use Rattle.quads.specs.Order.{CornerOrder}
@@ -10,6 +10,6 @@ pub record Arranged (i : Input) (q : Quad) : Type 0 where
   pub triangle : ℕ
   pub below : triangle < triangle_count i.mesh
   pub four : Quad
-  pub paired : paired_at i.mesh triangle ≡ Four four
+  pub paired : paired_at i.mesh triangle ≡ Some four
   -- q has them in order
   pub ordered : CornerOrder i.xs i.ys four q

@@ -1,17 +1,16 @@
 -- The call `merge_triangle_pairs` whole: rows 1, 2, 4 to 7 and 9 in order, or the quads at the front of their list.
+use Rattle.std.specs.Prelude.{Result}
+use Rattle.refusal.specs.declared.Refusal.{Refusal}
 use Rattle.std.specs.Prelude.{List, [], ◌∷◌, ◌++◌, ℕ, ◌*◌, ◌/◌, ltb, length, drop}
-use Rattle.refusal.specs.declared.Gate.{Gate}
-use Rattle.refusal.specs.declared.Gate.TheVariants.{Open, Shut}
+use Rattle.std.specs.Prelude.{Ok, Err}
 use Rattle.refusal.specs.declared.Refusal.TheVariants.{RecordsShort}
 use Rattle.refusal.specs.InNumbers.{InNumbers, gives, refuses}
-use Rattle.refusal.specs.Rows.{refuse_if, ◌then◌}
+use Rattle.refusal.specs.Rows.{Gate, refuse_if, ◌then◌}
 use Rattle.mesh.specs.Lists.{paired_row, whole_row, limit_row, most_corners, most_half_edges}
 use Rattle.mesh.specs.Positions.{positions_row}
 use Rattle.mesh.specs.Cells.{corners_row, classes_row, twice_row}
 use Rattle.mesh.specs.Twins.{twins_row}
 use Rattle.quads.specs.declared.Quad.{Quad}
-use Rattle.quads.specs.declared.Merged.{Merged}
-use Rattle.quads.specs.declared.Merged.TheVariants.{Done, Refused}
 use Rattle.quads.specs.Merge.{Input, merged_of}
 
 -- rows 1 and 2 look at lengths alone: x, y; triangles, twins, classes
@@ -41,18 +40,18 @@ words_of [] = []
 words_of (q ∷ qs) = q.a ∷ q.b ∷ q.c ∷ q.d ∷ words_of qs
 
 -- the answer in 01's numbers: how many quads there are
-abbrev pub merged_told : Merged → InNumbers ℕ
-merged_told (Done count) = gives count
-merged_told (Refused why) = refuses 0 why
+abbrev pub merged_told : Result ℕ Refusal → InNumbers ℕ
+merged_told (Ok count) = gives count
+merged_told (Err why) = refuses 0 why
 
 -- the answer, and the quad list after the call
 pub record Outcome : Type 0 where
-  pub answer : Merged
+  pub answer : Result ℕ Refusal
   pub quads : List ℕ
 
 abbrev pub outcome_by : Gate → Input → List ℕ → Outcome
-outcome_by Open i quads = record { answer = Done (length (merged_of i)); quads = words_of (merged_of i) ++ drop (4 * length (merged_of i)) quads }
-outcome_by (Shut why) i quads = record { answer = Refused why; quads = quads }
+outcome_by (Ok _) i quads = record { answer = Ok (length (merged_of i)); quads = words_of (merged_of i) ++ drop (4 * length (merged_of i)) quads }
+outcome_by (Err why) i quads = record { answer = Err why; quads = quads }
 
 unfoldable pub call_of : Input → List ℕ → Outcome
 call_of i quads = outcome_by (gate_of i then room_row (length quads) (length (merged_of i))) i quads

@@ -1,12 +1,9 @@
 -- Document 01, "Quads": triangle t pairs with the twin's triangle when that is higher, its own only diagonal is the twin, and the union
 -- has four corners. Quads stand in order of t.
+use Rattle.std.specs.Prelude.{Option, Some, None}
 use Rattle.std.specs.Prelude.{cond, List, [], ◌∷◌, ◌++◌, ℕ, zero, suc, ◌/◌, eqb, ltb, Float, length, get_or}
 use Rattle.std.specs.Borrow.{Bor}
 use Rattle.mesh.specs.HalfEdge.{triangle_of, no_twin}
-use Rattle.quads.specs.declared.Found.{Found}
-use Rattle.quads.specs.declared.Found.TheVariants.{Nowhere, At}
-use Rattle.quads.specs.declared.Pairing.{Pairing}
-use Rattle.quads.specs.declared.Pairing.TheVariants.{Alone, Four}
 use Rattle.quads.specs.declared.Quad.{Quad}
 use Rattle.quads.specs.Diagonal.{only_at, is_at}
 use Rattle.quads.specs.Union.{union_of, four_from}
@@ -35,22 +32,22 @@ abbrev pub triangle_count : Mesh → ℕ
 triangle_count m = length m.triangles / 3
 
 -- t's pairing across half-edge w, the twin of its only diagonal
-unfoldable pub paired_by : Mesh → ℕ → ℕ → Pairing
+unfoldable pub paired_by : Mesh → ℕ → ℕ → Option Quad
 paired_by m t w =
-    cond (eqb w no_twin) Alone
-    (cond (ltb t (triangle_of w)) (cond (is_at (only_at m.classes (triangle_of w)) w) (four_from (union_of m.triangles t (triangle_of w))) Alone) Alone)
+    cond (eqb w no_twin) None
+    (cond (ltb t (triangle_of w)) (cond (is_at (only_at m.classes (triangle_of w)) w) (four_from (union_of m.triangles t (triangle_of w))) None) None)
 
-unfoldable pub paired_across : Mesh → ℕ → Found → Pairing
-paired_across m t Nowhere = Alone
-paired_across m t (At e) = paired_by m t (get_or m.twins e 0)
+unfoldable pub paired_across : Mesh → ℕ → Option ℕ → Option Quad
+paired_across m t None = None
+paired_across m t (Some e) = paired_by m t (get_or m.twins e 0)
 
-unfoldable pub paired_at : Mesh → ℕ → Pairing
+unfoldable pub paired_at : Mesh → ℕ → Option Quad
 paired_at m t = paired_across m t (only_at m.classes t)
 
 -- the quad that t makes, if it makes one
-abbrev pub made_by : Input → Pairing → List Quad
-made_by i Alone = []
-made_by i (Four q) = order_of i.xs i.ys q ∷ []
+abbrev pub made_by : Input → Option Quad → List Quad
+made_by i None = []
+made_by i (Some q) = order_of i.xs i.ys q ∷ []
 
 -- the quads of the triangles below t
 unfoldable pub quads_to : Input → ℕ → List Quad

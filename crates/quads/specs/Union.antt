@@ -1,7 +1,7 @@
 -- The union of two triangles' corners: the first one's three in order, then those of the second that are new.
+use Rattle.quads.specs.declared.Quad.{Quad}
+use Rattle.std.specs.Prelude.{Option, Some, None}
 use Rattle.std.specs.Prelude.{Bool, false, cond, ◌||◌, List, [], ◌∷◌, ◌++◌, ℕ, ◌+◌, ◌*◌, eqb, get_or}
-use Rattle.quads.specs.declared.Pairing.{Pairing}
-use Rattle.quads.specs.declared.Pairing.TheVariants.{Alone, Four}
 
 abbrev pub corners_of : List ℕ → ℕ → List ℕ
 corners_of triangles t = get_or triangles (3 * t) 0 ∷ get_or triangles (3 * t + 1) 0 ∷ get_or triangles (3 * t + 2) 0 ∷ []
@@ -18,10 +18,10 @@ unfoldable pub union_of : List ℕ → ℕ → ℕ → List ℕ
 union_of triangles t u = corners_of triangles t ++ new_to (corners_of triangles t) (corners_of triangles u)
 
 -- four corners make a quad, fewer or more do not
-unfoldable pub four_from : List ℕ → Pairing
-four_from [] = Alone
-four_from (a ∷ []) = Alone
-four_from (a ∷ b ∷ []) = Alone
-four_from (a ∷ b ∷ c ∷ []) = Alone
-four_from (a ∷ b ∷ c ∷ d ∷ []) = Four (record { a = a; b = b; c = c; d = d })
-four_from (a ∷ b ∷ c ∷ d ∷ e ∷ rest) = Alone
+unfoldable pub four_from : List ℕ → Option Quad
+four_from [] = None
+four_from (a ∷ []) = None
+four_from (a ∷ b ∷ []) = None
+four_from (a ∷ b ∷ c ∷ []) = None
+four_from (a ∷ b ∷ c ∷ d ∷ []) = Some (record { a = a; b = b; c = c; d = d })
+four_from (a ∷ b ∷ c ∷ d ∷ e ∷ rest) = None

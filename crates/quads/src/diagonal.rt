@@ -3,7 +3,6 @@ ghost use Rattle.std.specs.Prelude.{◌≡◌, ◌+◌, ◌*◌, ◌≤◌, leng
 ghost use Rattle.quads.specs.Diagonal.{only_at, is_at};
 ghost use Rattle.quads.specs.inner.Search.{step_of, seen_of};
 
-use crate::Found;
 use classify::Class;
 use classify::inner::class_from;
 
@@ -35,24 +34,24 @@ fn only_side(classes: &[u32], base: usize) -> usize
     seen
 }
 
-pub(crate) fn only_diagonal(classes: &[u32], t: usize) -> Found
+pub(crate) fn only_diagonal(classes: &[u32], t: usize) -> Option<usize>
     requires { 3 * t + 3 ≤ length classes.now }
     ensures { result ≡ only_at classes.now t }
 {
     let base = 3 * t;
     let side = only_side(classes, base);
     if side < 3 {
-        return Found::At(base + side);
+        return Some(base + side);
     }
-    Found::Nowhere
+    None
 }
 
 // Whether what was found is half-edge e.
-pub(crate) fn is_at(found: Found, e: usize) -> bool
+pub(crate) fn is_at(found: Option<usize>, e: usize) -> bool
     ensures { result ≡ is_at found e }
 {
     match found {
-        Found::Nowhere => false,
-        Found::At(f) => f == e,
+        None => false,
+        Some(f) => f == e,
     }
 }

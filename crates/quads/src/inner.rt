@@ -5,7 +5,7 @@ ghost use Rattle.quads.specs.Merge.{paired_at, made_by, merged_of, triangle_coun
 
 use crate::order::order_corners;
 use crate::pair::{next_pair, pair_at};
-use crate::{Pairing, Quad};
+use crate::Quad;
 
 // How many quads the mesh makes. `merge_triangle_pairs` shows what is asked by its rows.
 pub(crate) fn count_quads(triangles: &[u32], twins: &[u32], classes: &[u32]) -> usize
@@ -40,8 +40,8 @@ fn quad_of(
 {
     let pairing = pair_at(triangles, twins, classes, t);
     match pairing {
-        Pairing::Four(q) => order_corners(x, y, q),
-        Pairing::Alone => Quad {
+        Some(q) => order_corners(x, y, q),
+        None => Quad {
             a: 0,
             b: 0,
             c: 0,

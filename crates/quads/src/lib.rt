@@ -6,7 +6,7 @@ ghost use Rattle.std.specs.Prelude.{◌≡◌};
 ghost use Rattle.quads.specs.Merge.{given};
 ghost use Rattle.quads.specs.Call.{Outcome, call_of};
 
-use refusal::{Gate, Refusal};
+use refusal::Refusal;
 
 mod diagonal;
 mod gate;
@@ -32,28 +32,7 @@ pub struct Ranks {
     pub d: usize,
 }
 
-// A half-edge that a search found, or none.
-#[derive(Drop)]
-pub enum Found {
-    Nowhere,
-    At(usize),
-}
-
-// A triangle's pairing: the four corners of its union with another, or none.
-#[derive(Drop)]
-pub enum Pairing {
-    Alone,
-    Four(Quad),
-}
-
-// How many quads were made, or why none were.
-#[derive(Drop)]
-pub enum Merged {
-    Done(u32),
-    Refused(Refusal),
-}
-
-// Writes a quad, four corners, for each pair of triangles, in order of the lower one.
+// Writes a quad, four corners, for each pair of triangles, in order of the lower one; answers how many.
 pub fn merge_triangle_pairs(
     x: &[f32],
     y: &[f32],
@@ -61,18 +40,15 @@ pub fn merge_triangle_pairs(
     twins: &[u32],
     classes: &[u32],
     quads: &mut [u32],
-) -> Merged
+) -> Result<u32, Refusal>
     ensures { ◌≡◌ {A = Outcome} (record { answer = result; quads = quads.new })
         (call_of (given x.entry y.entry triangles.entry twins.entry classes.entry) quads.old) }
 {
-    let gate = gate::judge(x, y, triangles, twins, classes);
-    if let Gate::Shut(why) = gate {
-        return Merged::Refused(why);
-    }
+    gate::judge(x, y, triangles, twins, classes)?;
     let count = inner::count_quads(triangles, twins, classes);
     if quads.len() / 4 < count {
-        return Merged::Refused(Refusal::RecordsShort(count as u32));
+        return Err(Refusal::RecordsShort(count as u32));
     }
     inner::write_quads(x, y, triangles, twins, classes, quads);
-    Merged::Done(count as u32)
+    Ok(count as u32)
 }

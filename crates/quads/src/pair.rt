@@ -5,7 +5,7 @@ ghost use Rattle.quads.specs.inner.Merging.{is_four, MeshSound, NextPair};
 ghost use Rattle.quads.specs.Merge.{paired_by, paired_at, mesh_of};
 
 use crate::diagonal::{is_at, only_diagonal};
-use crate::{Found, Pairing, Quad};
+use crate::Quad;
 use mesh::inner::twins::NO_TWIN;
 use words::inner::wide;
 
@@ -23,25 +23,25 @@ fn is_one(x: u32, a: u32, b: u32, c: u32) -> bool
 }
 
 // The three corners with the one of v and w that is new, if just one is.
-fn with_one(a: u32, b: u32, c: u32, v: u32, w: u32) -> Pairing
+fn with_one(a: u32, b: u32, c: u32, v: u32, w: u32) -> Option<Quad>
     ensures { result ≡ four_from ((a ∷ b ∷ c ∷ []) ++ new_to (a ∷ b ∷ c ∷ []) (v ∷ w ∷ [])) }
 {
     let v_old = is_one(v, a, b, c);
     let w_old = is_one(w, a, b, c);
     if v_old {
         if w_old {
-            return Pairing::Alone;
+            return None;
         }
-        return Pairing::Four(Quad { a, b, c, d: w });
+        return Some(Quad { a, b, c, d: w });
     }
     if w_old {
-        return Pairing::Four(Quad { a, b, c, d: v });
+        return Some(Quad { a, b, c, d: v });
     }
-    Pairing::Alone
+    None
 }
 
 // The three corners with the one of u, v and w that is new, if just one is.
-fn with_new(a: u32, b: u32, c: u32, u: u32, v: u32, w: u32) -> Pairing
+fn with_new(a: u32, b: u32, c: u32, u: u32, v: u32, w: u32) -> Option<Quad>
     ensures { result ≡ four_from ((a ∷ b ∷ c ∷ []) ++ new_to (a ∷ b ∷ c ∷ []) (u ∷ v ∷ w ∷ [])) }
 {
     if is_one(u, a, b, c) {
@@ -49,14 +49,14 @@ fn with_new(a: u32, b: u32, c: u32, u: u32, v: u32, w: u32) -> Pairing
     }
     if is_one(v, a, b, c) {
         if is_one(w, a, b, c) {
-            return Pairing::Four(Quad { a, b, c, d: u });
+            return Some(Quad { a, b, c, d: u });
         }
     }
-    Pairing::Alone
+    None
 }
 
 // The union of triangles t and u, if it has four corners.
-fn union_of(triangles: &[u32], t: usize, u: usize) -> Pairing
+fn union_of(triangles: &[u32], t: usize, u: usize) -> Option<Quad>
     requires { (3 * t + 2 < length triangles.now) × (3 * u + 2 < length triangles.now) }
     ensures { result ≡ four_from (union_of triangles.now t u) }
 {
@@ -74,33 +74,33 @@ fn union_of(triangles: &[u32], t: usize, u: usize) -> Pairing
 }
 
 // t's pairing across half-edge e, its only diagonal.
-fn pair_across(triangles: &[u32], twins: &[u32], classes: &[u32], t: usize, e: usize) -> Pairing
+fn pair_across(triangles: &[u32], twins: &[u32], classes: &[u32], t: usize, e: usize) -> Option<Quad>
     requires { MeshSound (mesh_of triangles twins classes) × (3 * t + 2 < length triangles.now) × (3 * t ≤ e) × (e < 3 * t + 3) }
     ensures { result ≡ paired_by (mesh_of triangles.entry twins.entry classes.entry) t (get_or twins.now e 0) }
 {
     let w = twins[e];
     if w == NO_TWIN {
-        return Pairing::Alone;
+        return None;
     }
     let twin = wide(w);
     let other = twin / 3;
     if other <= t {
-        return Pairing::Alone;
+        return None;
     }
     if is_at(only_diagonal(classes, other), twin) {
         return union_of(triangles, t, other);
     }
-    Pairing::Alone
+    None
 }
 
 // Triangle t's pairing with a higher one.
-pub(crate) fn pair_at(triangles: &[u32], twins: &[u32], classes: &[u32], t: usize) -> Pairing
+pub(crate) fn pair_at(triangles: &[u32], twins: &[u32], classes: &[u32], t: usize) -> Option<Quad>
     requires { MeshSound (mesh_of triangles twins classes) × (3 * t + 2 < length triangles.now) }
     ensures { result ≡ paired_at (mesh_of triangles.entry twins.entry classes.entry) t }
 {
     let found = only_diagonal(classes, t);
-    let Found::At(e) = found else {
-        return Pairing::Alone;
+    let Some(e) = found else {
+        return None;
     };
     pair_across(triangles, twins, classes, t, e)
 }
@@ -112,8 +112,8 @@ fn makes_quad(triangles: &[u32], twins: &[u32], classes: &[u32], t: usize) -> bo
 {
     let pairing = pair_at(triangles, twins, classes, t);
     match pairing {
-        Pairing::Alone => false,
-        Pairing::Four(_) => true,
+        None => false,
+        Some(_) => true,
     }
 }
 

@@ -5,8 +5,6 @@
 ghost use Rattle.std.specs.Prelude.{◌≡◌};
 ghost use Rattle.refusal.specs.Table.{number_of, place_of, beside_of, has_beside};
 
-pub mod inner;
-
 // What was wrong with the input. A number beside it is what the table calls the place; a twin fault also has the twin's value.
 #[derive(Clone, Copy)]
 pub enum Refusal {
@@ -24,13 +22,6 @@ pub enum Refusal {
     WorkspaceShort(u32),
     RecordsShort(u32),
     EntriesShort(u32),
-}
-
-// Whether a call may go on. Rows are tried in the table's order, and the first that refuses shuts the gate.
-#[derive(Drop)]
-pub enum Gate {
-    Open,
-    Shut(Refusal),
 }
 
 // The row's number.

@@ -3,7 +3,6 @@
 #![tactic(auto)]
 
 use measure::inner::{float_of, word_of};
-use measure::{Distance, Measured};
 use std::io::{Error, ErrorKind, Write};
 use std::rt::{Env, HostRuntime, Stdout};
 use std::{env, io};
@@ -16,20 +15,20 @@ fn write_number(out: &mut Stdout, x: f32) -> io::Result<()> {
     out.write_all(b"\n")
 }
 
-fn write_measured(out: &mut Stdout, answer: Measured) -> io::Result<()> {
+fn write_measured(out: &mut Stdout, answer: Result<f32, Refusal>) -> io::Result<()> {
     match answer {
-        Measured::Known(x) => write_number(out, x),
-        Measured::Refused(why) => {
+        Ok(x) => write_number(out, x),
+        Err(why) => {
             write_refusal(out, why)?;
             Ok(())
         }
     }
 }
 
-fn write_distance(out: &mut Stdout, answer: Distance) -> io::Result<()> {
+fn write_distance(out: &mut Stdout, answer: Option<f32>) -> io::Result<()> {
     match answer {
-        Distance::Known(x) => write_number(out, x),
-        Distance::Missing => out.write_all(b"none\n"),
+        Some(x) => write_number(out, x),
+        None => out.write_all(b"none\n"),
     }
 }
 

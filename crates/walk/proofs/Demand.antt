@@ -2,6 +2,8 @@
 -- which is when its fate is to be kept; its assignment is the only one, its component lists exactly the lone corners, the holes are counted.
 -- Of rows 9 and 10: what they say is wanted is the number of those groups, and the sum of their lone corners. All of it follows from the
 -- contract `Allowed`, whose outcome is the only one (`determined`). Assumes nothing.
+use Rattle.std.specs.Prelude.{Err}
+use Rattle.walk.specs.Call.{wrote}
 use mathlib.Core.Path.{◌≡◌, refl, sym, ap, ◌∙◌, subst}
 use mathlib.Core.Bool.{true}
 use mathlib.Core.Logic.{◌⊎◌, inl, inr}
@@ -9,7 +11,7 @@ use mathlib.Core.List.{List}
 use Prim.Native.Nat.{ℕ, ◌+◌, ◌/◌, ◌≤◌, ◌<◌}
 use native.Mathlib.Omega.{arith}
 use lib.ListN.{length}
-use Rattle.refusal.specs.declared.Gate.TheVariants.{Open}
+use Rattle.std.specs.Prelude.{Ok}
 use Rattle.refusal.specs.declared.Refusal.TheVariants.{RecordsShort, EntriesShort}
 use Rattle.cells.specs.Kind.{Pair, ReachedCorner, Fits}
 use Rattle.cells.specs.Counted.{Exactly}
@@ -21,7 +23,6 @@ use Rattle.cells.proofs.Unique.{one_labelling}
 use Rattle.cells.proofs.Squares.{quad_laws}
 use Rattle.fates.specs.declared.Fate.{Fate}
 use Rattle.fates.specs.Judged.{Becomes, is_kept}
-use Rattle.walk.specs.declared.Labelled.TheVariants.{Done, Refused}
 use Rattle.walk.specs.Input.{Input, quad_count, GroupsOf, grouping, Answer}
 use Rattle.walk.specs.Call.{entry_gate, Outcome, Allowed}
 use Rattle.walk.specs.Read.{entry_at, before_of, count_of, holes_of, component_at, components_from}
@@ -47,7 +48,7 @@ only cells s c L M f g r = one_labelling quads quad_laws cells f g r
 -- ---- a call that is done
 
 -- it answered k components and l entries
-module _ (i : Input) (work components entries : List ℕ) (o : Outcome) (allowed : Allowed i work components entries o) (k l : ℕ) (done : o.answer ≡ Done k l) where
+module _ (i : Input) (work components entries : List ℕ) (o : Outcome) (allowed : Allowed i work components entries o) (k l : ℕ) (done : o.answer ≡ wrote k l) where
   written : Success i o k l
   written = success i work components entries o k l allowed done
 
@@ -120,7 +121,7 @@ module _ (i : Input) (work components entries : List ℕ) (o : Outcome) (allowed
 
 module _ (i : Input) (work components entries : List ℕ) (o : Outcome) (allowed : Allowed i work components entries o) where
   -- a call that rows 1 to 8 let through: there are numbers of the groups, and `one_answer` of crates/cells says that they are the only ones
-  module _ (through : entry_gate i (length work) ≡ Open) where
+  module _ (through : entry_gate i (length work) ≡ Ok tt) where
     passes : Passed i components entries o.answer
     passes = passed i work components entries o allowed through
 
@@ -140,7 +141,7 @@ module _ (i : Input) (work components entries : List ℕ) (o : Outcome) (allowed
 
   module _ (number : ℕ → ℕ) (groups : GroupsOf i number) (w : ℕ) where
     -- row 9: w groups have all that is demanded, and there is room for fewer
-    pub records_wanted : o.answer ≡ Refused (RecordsShort w) → Exactly (Yields i number) w × (length components / 3 < w)
+    pub records_wanted : o.answer ≡ Err (RecordsShort w) → Exactly (Yields i number) w × (length components / 3 < w)
     records_wanted e =
         let through = open_by_9 i work components entries o allowed w e in
         let (k, (l, a)) = wanted through number groups in
@@ -148,7 +149,7 @@ module _ (i : Input) (work components entries : List ℕ) (o : Outcome) (allowed
         rw (← t.0) (exactly_yields a.seeds, t.1)
 
     -- row 10: the lone corners of the groups that have all that is demanded are w in all; there is room for the groups, but for fewer entries
-    pub entries_wanted : o.answer ≡ Refused (EntriesShort w) → (k : ℕ) × (Wanted i number k w × (k ≤ length components / 3) × (length entries / 3 < w))
+    pub entries_wanted : o.answer ≡ Err (EntriesShort w) → (k : ℕ) × (Wanted i number k w × (k ≤ length components / 3) × (length entries / 3 < w))
     entries_wanted e =
         let through = open_by_10 i work components entries o allowed w e in
         let (k, (l, a)) = wanted through number groups in

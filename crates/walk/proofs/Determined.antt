@@ -1,5 +1,6 @@
 -- The call has one outcome (`determined`): the rows decide, an input has one grouping of its quads, and a grouping one list of components,
 -- which depends on the groups' numbers of its cells alone. Assumes nothing.
+use Rattle.std.specs.Prelude.{Err}
 use mathlib.Core.Path.{◌≡◌, sym, ap, ◌∙◌}
 use mathlib.Core.List.{List}
 use Prim.Native.Nat.{ℕ, ◌≤◌, ◌<◌}
@@ -18,7 +19,6 @@ use Rattle.cells.proofs.Sums.{how_many_same}
 use Rattle.cells.proofs.Groups.{one_answer}
 use Rattle.cells.proofs.Squares.{quad_laws}
 use Rattle.cells.proofs.Yields.{components_determined}
-use Rattle.walk.specs.declared.Labelled.TheVariants.{Refused}
 use Rattle.walk.specs.Input.{Input, quad_count, GroupsOf, grouping, Answer}
 use Rattle.walk.specs.Call.{all_entries, entry_gate, room_row, entries_row, Outcome, outcome_by, Allowed}
 use Rattle.walk.specs.Call.Allowed.{refused, labelled}
@@ -67,7 +67,7 @@ one_out i out other a b = components_determined quads i.quads (grouping i b.numb
 
 pub determined : (i : Input) (work components entries : List ℕ) (o p : Outcome) → Allowed i work components entries o → Allowed i work components entries p → o ≡ p
 determined i work components entries o p (refused why e) (refused other f) =
-    ap (λ (w : Refusal). record { answer = Refused w; work = work; components = components; entries = entries }) (one_why (entry_gate i (length work)) why other e f)
+    ap (λ (w : Refusal). record { answer = Err w; work = work; components = components; entries = entries }) (one_why (entry_gate i (length work)) why other e f)
 determined i work components entries o p (refused why e) (labelled f out a) = absurd (shut_open (entry_gate i (length work)) why e f)
 determined i work components entries o p (labelled e out a) (refused why f) = absurd (shut_open (entry_gate i (length work)) why f e)
 determined i work components entries o p (labelled e out a) (labelled f other b) =

@@ -6,17 +6,15 @@ use mathlib.Core.List.{List}
 use Prim.Native.Nat.{ℕ, ◌/◌, ◌%◌}
 use lib.Dec.{eqb, ltb}
 use lib.ListN.{length}
-use Rattle.refusal.specs.declared.Gate.{Gate}
-use Rattle.refusal.specs.declared.Gate.TheVariants.{Open, Shut}
+use Rattle.std.specs.Prelude.{Ok, Err}
 use Rattle.refusal.specs.declared.Refusal.{Refusal}
 use Rattle.refusal.specs.declared.Refusal.TheVariants.{Unpaired, OverLimit, NoSuchCorner, CornerTwice, WorkspaceShort, RecordsShort, EntriesShort}
 use Rattle.refusal.specs.First.{first_of}
-use Rattle.refusal.specs.Rows.{refuse_if, refuse_first, ◌then◌}
+use Rattle.refusal.specs.Rows.{Gate, refuse_if, refuse_first, ◌then◌}
 use Rattle.refusal.specs.Table.{number_of}
 use Rattle.refusal.proofs.Rows.{shut_open, one_why}
 use Rattle.mesh.specs.Lists.{paired_row, limit_row, most_corners, most_quads, work_row, quad_words}
 use Rattle.mesh.specs.Cells.{not_below, corners_row, names_twice, twice_row}
-use Rattle.walk.specs.declared.Labelled.TheVariants.{Refused}
 use Rattle.walk.specs.Input.{Input, quad_count}
 use Rattle.walk.specs.Call.{gate_of, entry_gate, Outcome, Allowed}
 use Rattle.walk.specs.Call.Allowed.{refused, labelled}
@@ -27,19 +25,19 @@ of_room why = eqb (number_of why) 9 || eqb (number_of why) 10
 
 -- where it is shut, it is not for want of room
 abbrev pub Early : Gate → Type 0
-Early g = (why : Refusal) → g ≡ Shut why → of_room why ≡ false
+Early g = (why : Refusal) → g ≡ Err why → of_room why ≡ false
 
 pub early_if : (t : Bool) (why : Refusal) → of_room why ≡ false → Early (refuse_if t why)
-early_if true why h other e = subst (λ (w : Refusal). of_room w ≡ false) (one_why (Shut why) why other refl e) h
-early_if false why h other e = absurd (shut_open Open other e refl)
+early_if true why h other e = subst (λ (w : Refusal). of_room w ≡ false) (one_why (Err why) why other refl e) h
+early_if false why h other e = absurd (shut_open (Ok tt) other e refl)
 
 pub early_first : (offends : ℕ → Bool) (n : ℕ) (why : ℕ → Refusal) → ((k : ℕ) → of_room (why k) ≡ false) → Early (refuse_first offends n why)
 unfolding refuse_first
 early_first offends n why h = early_if (ltb (first_of offends n) n) (why (first_of offends n)) (h (first_of offends n))
 
 pub early_then : (g h : Gate) → Early g → Early h → Early (g then h)
-early_then Open h a b = b
-early_then (Shut why) h a b = a
+early_then (Ok _) h a b = b
+early_then (Err why) h a b = a
 
 -- ---- rows 1, 2, 5, 6 and 8
 
@@ -72,20 +70,20 @@ entry_early i words =
 
 -- ---- rows 9 and 10
 
-pub not_9 : (g : Gate) → Early g → (why : Refusal) (w : ℕ) → g ≡ Shut why → Refused why ≡ Refused (RecordsShort w) → ⊥
+pub not_9 : (g : Gate) → Early g → (why : Refusal) (w : ℕ) → g ≡ Err why → Err why ≡ Err (RecordsShort w) → ⊥
 not_9 g early why w e f =
     let s : why ≡ RecordsShort w = cc in
     false≢true (sym (early why e) ∙ ap of_room s)
 
-pub not_10 : (g : Gate) → Early g → (why : Refusal) (w : ℕ) → g ≡ Shut why → Refused why ≡ Refused (EntriesShort w) → ⊥
+pub not_10 : (g : Gate) → Early g → (why : Refusal) (w : ℕ) → g ≡ Err why → Err why ≡ Err (EntriesShort w) → ⊥
 not_10 g early why w e f =
     let s : why ≡ EntriesShort w = cc in
     false≢true (sym (early why e) ∙ ap of_room s)
 
-pub open_by_9 : (i : Input) (work components entries : List ℕ) (o : Outcome) → Allowed i work components entries o → (w : ℕ) → o.answer ≡ Refused (RecordsShort w) → entry_gate i (length work) ≡ Open
+pub open_by_9 : (i : Input) (work components entries : List ℕ) (o : Outcome) → Allowed i work components entries o → (w : ℕ) → o.answer ≡ Err (RecordsShort w) → entry_gate i (length work) ≡ Ok tt
 open_by_9 i work components entries o (refused why e) w f = absurd (not_9 (entry_gate i (length work)) (entry_early i (length work)) why w e f)
 open_by_9 i work components entries o (labelled e out a) w f = e
 
-pub open_by_10 : (i : Input) (work components entries : List ℕ) (o : Outcome) → Allowed i work components entries o → (w : ℕ) → o.answer ≡ Refused (EntriesShort w) → entry_gate i (length work) ≡ Open
+pub open_by_10 : (i : Input) (work components entries : List ℕ) (o : Outcome) → Allowed i work components entries o → (w : ℕ) → o.answer ≡ Err (EntriesShort w) → entry_gate i (length work) ≡ Ok tt
 open_by_10 i work components entries o (refused why e) w f = absurd (not_10 (entry_gate i (length work)) (entry_early i (length work)) why w e f)
 open_by_10 i work components entries o (labelled e out a) w f = e

@@ -6,6 +6,7 @@
 -- What it does not say. Of a group that hangs on a side run alike: there it need not hold (`orders`). Of the order of the components, which
 -- goes by the quads' numbers. Of rows 9 and 10, which speak of the whole list, where another group may hang so. Of the holes. Of quads begun
 -- at another corner or run the other way: they are other quads. It follows from the contract `Allowed`. Assumes nothing.
+use Rattle.walk.specs.Call.{wrote}
 use mathlib.Core.Path.{◌≡◌}
 use mathlib.Core.List.{List}
 use Prim.Native.Nat.{ℕ, ◌<◌}
@@ -16,7 +17,6 @@ use Rattle.cells.specs.Turned.{TurnedListing}
 use Rattle.cells.proofs.Reorder.{one_group}
 use Rattle.cells.proofs.Relisted.{same_corners, turned_listing}
 pub use Rattle.cells.proofs.Orders.{orders}
-use Rattle.walk.specs.declared.Labelled.TheVariants.{Done}
 use Rattle.walk.specs.Input.{Input, quad_count}
 use Rattle.walk.specs.Call.{Outcome, Allowed}
 use Rattle.walk.specs.DoneCall.{DoneCall, grouping_of, HasComponent, listing}
@@ -24,7 +24,7 @@ use Rattle.walk.proofs.Demand.{answered, amounts}
 use Rattle.walk.proofs.Carried.{has_exactly, component_of, lowest_has, as_many, has, below, to_the_lowest, demanded_same}
 
 -- every call that answered k components and l entries is such a call
-pub done_call : (i : Input) (work components entries : List ℕ) (o : Outcome) → Allowed i work components entries o → (k l : ℕ) → o.answer ≡ Done k l → DoneCall i o
+pub done_call : (i : Input) (work components entries : List ℕ) (o : Outcome) → Allowed i work components entries o → (k l : ℕ) → o.answer ≡ wrote k l → DoneCall i o
 done_call i work components entries o allowed k l done =
     let a = answered i work components entries o allowed k l done in
     let w = amounts i work components entries o allowed k l done a.number a.groups in

@@ -4,13 +4,12 @@ use mathlib.Core.List.{List}
 use Prim.Native.Nat.{ℕ, ◌+◌, ◌*◌, ◌≤◌}
 use native.Mathlib.Omega.{arith}
 use lib.ListN.{length}
-use Rattle.refusal.specs.declared.Gate.{Gate}
-use Rattle.refusal.specs.declared.Gate.TheVariants.{Open, Shut}
+use Rattle.refusal.specs.Rows.{Gate}
+use Rattle.std.specs.Prelude.{Ok, Err}
 use Rattle.refusal.specs.declared.Refusal.{Refusal}
 use Rattle.cells.specs.Listed.{Entry}
 use Rattle.laying.specs.inner.Layout.{Given}
 use Rattle.fates.specs.inner.Computed.{Computed}
-use Rattle.walk.specs.declared.Labelled.TheVariants.{Refused}
 use Rattle.walk.specs.Input.{Input, quad_count, Answer}
 use Rattle.walk.specs.Call.{entry_gate, Outcome, outcome_by, Allowed}
 use Rattle.walk.specs.Call.Allowed.{refused as by_rows, labelled as by_answer}
@@ -20,13 +19,13 @@ use Rattle.walk.proofs.Sound.{span_of, Sound, entry_sound}
 use Rattle.walk.proofs.Yielded.{components_are, writable}
 use Rattle.walk.proofs.Rooms.{room_rows, outcome_by_length}
 
-pub shut : (i : Input) (work components entries : List ℕ) (g : Gate) (why : Refusal) → g ≡ entry_gate i (length work) → g ≡ Shut why → Allowed i work components entries (record { answer = Refused why; work = work; components = components; entries = entries })
+pub shut : (i : Input) (work components entries : List ℕ) (g : Gate) (why : Refusal) → g ≡ entry_gate i (length work) → g ≡ Err why → Allowed i work components entries (record { answer = Err why; work = work; components = components; entries = entries })
 shut i work components entries g why e f = by_rows why (sym e ∙ f)
 
 -- ---- a call that the rows let through
 
 pub record Entered (i : Input) (work : List ℕ) (span : ℕ) : Type 0 where
-  pub through : entry_gate i (length work) ≡ Open
+  pub through : entry_gate i (length work) ≡ Ok tt
   pub spanned : span ≡ span_of i
 
 module _ {i : Input} {work : List ℕ} {span : ℕ} (e : Entered i work span) where

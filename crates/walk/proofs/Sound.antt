@@ -7,10 +7,9 @@ use Prim.Native.Nat.{ℕ, ◌+◌, ◌*◌, ◌/◌, ◌%◌, ◌≤◌, ◌<◌
 use native.Mathlib.Decide.{dec_lt}
 use native.Mathlib.Omega.{arith}
 use lib.ListN.{length}
-use Rattle.refusal.specs.declared.Gate.{Gate}
-use Rattle.refusal.specs.declared.Gate.TheVariants.{Open, Shut}
+use Rattle.std.specs.Prelude.{Ok, Err}
 use Rattle.refusal.specs.declared.Refusal.{Refusal}
-use Rattle.refusal.specs.Rows.{◌then◌}
+use Rattle.refusal.specs.Rows.{Gate, ◌then◌}
 use Rattle.refusal.proofs.Rows.{open_both}
 use Rattle.mesh.specs.Lists.{whole_row, limit_row, most_corners, most_quads, work_row, quad_words}
 use Rattle.mesh.specs.Cells.{corners_row, names_twice, twice_row}
@@ -25,11 +24,11 @@ use Rattle.laying.specs.inner.Layout.{Given}
 
 -- six rows, in two ways of three
 regrouped : (a b c d e f : Gate) → ((a then b then c then d then e) then f) ≡ ((a then b then c) then d then e then f)
-regrouped (Shut why) b c d e f = refl
-regrouped Open (Shut why) c d e f = refl
-regrouped Open Open (Shut why) d e f = refl
-regrouped Open Open Open (Shut why) e f = refl
-regrouped Open Open Open Open e f = refl
+regrouped (Err why) b c d e f = refl
+regrouped (Ok _) (Err why) c d e f = refl
+regrouped (Ok _) (Ok _) (Err why) d e f = refl
+regrouped (Ok _) (Ok _) (Ok _) (Err why) e f = refl
+regrouped (Ok _) (Ok _) (Ok _) (Ok _) e f = refl
 
 -- rows 1 and 2 as one, and those after them
 abbrev pub lengths_row : ℕ → ℕ → Gate
@@ -44,15 +43,15 @@ entry_rows i words =
     regrouped (whole_row (length i.quads) 4) (limit_row i.corners most_corners) (limit_row (quad_count i) most_quads) (corners_row i.corners i.quads) (twice_row 4 i.quads)
     (work_row words (quad_words (quad_count i) i.corners))
 
-pub entry_after : (i : Input) (words : ℕ) (g : Gate) → g ≡ lengths_row (length i.quads) i.corners → g ≡ Open → values_row i.quads i.corners words ≡ entry_gate i words
+pub entry_after : (i : Input) (words : ℕ) (g : Gate) → g ≡ lengths_row (length i.quads) i.corners → g ≡ Ok tt → values_row i.quads i.corners words ≡ entry_gate i words
 entry_after i words g e f = rw (entry_rows i words, ← e, f)
 
-pub entry_shut : (i : Input) (words : ℕ) (g : Gate) (why : Refusal) → g ≡ lengths_row (length i.quads) i.corners → g ≡ Shut why → Shut why ≡ entry_gate i words
+pub entry_shut : (i : Input) (words : ℕ) (g : Gate) (why : Refusal) → g ≡ lengths_row (length i.quads) i.corners → g ≡ Err why → Err why ≡ entry_gate i words
 entry_shut i words g why e f = rw (entry_rows i words, ← e, f)
 
 -- ---- what they let through
 
-pub lengths_open : (quads corners : ℕ) → lengths_row quads corners ≡ Open → (quads % 4 ≡ 0) × (corners ≤ most_corners) × (quads / 4 ≤ most_quads)
+pub lengths_open : (quads corners : ℕ) → lengths_row quads corners ≡ Ok tt → (quads % 4 ≡ 0) × (corners ≤ most_corners) × (quads / 4 ≤ most_quads)
 lengths_open quads corners e =
     let e1 = open_both (whole_row quads 4) _ e in
     let e2 = open_both (limit_row corners most_corners) (limit_row (quads / 4) most_quads) e1.1 in
@@ -79,7 +78,7 @@ pub record Sound (i : Input) (words : ℕ) : Type 0 where
   pub few : quad_count i ≤ most_quads
   pub room : 4 * span_of i + 27 * quad_count i ≤ words
 
-pub entry_sound : (i : Input) (words : ℕ) → entry_gate i words ≡ Open → Sound i words
+pub entry_sound : (i : Input) (words : ℕ) → entry_gate i words ≡ Ok tt → Sound i words
 entry_sound i words e =
     let all = open_both (lengths_row (length i.quads) i.corners) (values_row i.quads i.corners words) (sym (entry_rows i words) ∙ e) in
     let l = lengths_open (length i.quads) i.corners all.0 in

@@ -1,4 +1,7 @@
 -- The call on two quads in both orders is as listed: by computation, and since there is one answer. Assumes nothing.
+use Rattle.std.specs.Prelude.{Result, Err}
+use Rattle.refusal.specs.declared.Refusal.{Refusal}
+use Rattle.walk.specs.Call.{wrote}
 use mathlib.Core.Path.{◌≡◌, refl, sym, ap, subst}
 use mathlib.Core.List.{List, [], ◌∷◌}
 use Prim.Native.Nat.{ℕ, zero, suc, ◌<◌}
@@ -17,7 +20,6 @@ use Rattle.cells.proofs.Groups.{one_answer}
 use Rattle.cells.proofs.Check.{groups_are}
 use Rattle.cells.proofs.Computed.{computed_are}
 use Rattle.walk.specs.declared.Labelled.{Labelled}
-use Rattle.walk.specs.declared.Labelled.TheVariants.{Done, Refused}
 use Rattle.walk.specs.Input.{GroupsOf, grouping, Answer}
 use Rattle.walk.specs.Call.{gate_of, entry_gate, entry_words, all_entries, component_words}
 use Rattle.walk.specs.Call.Allowed.{labelled}
@@ -42,9 +44,9 @@ stands : Answer (two_quads opposite_back) (standing ∷ [])
 unfolding total
 stands = record { number = zero_for_all; groups = groups_are opposite_back zero_for_all refl; components = computed_are opposite_back (grouping (two_quads opposite_back) zero_for_all) 2 (omega arith) }
 
-components_told : Labelled → ℕ
-components_told (Done k l) = k
-components_told (Refused why) = 0
+components_told : Result Labelled Refusal → ℕ
+components_told (Ok counts) = counts.components
+components_told (Err why) = 0
 
 -- ---- the group of the first quad
 

@@ -1,18 +1,17 @@
 -- The call `label_components` whole: rows 1, 2, 5, 6 and 8 in order, rows 9 and 10, or the components and their entries at the front of
 -- their lists. The workspace is all zero after rows 9 and 10 and on success, and untouched by every other refusal.
+use Rattle.std.specs.Prelude.{Result}
 use Rattle.std.specs.Prelude.{◌≡◌, List, [], ◌∷◌, ◌++◌, ℕ, ◌+◌, ◌*◌, ◌/◌, ltb, length, drop, replicate}
-use Rattle.refusal.specs.declared.Gate.{Gate}
-use Rattle.refusal.specs.declared.Gate.TheVariants.{Open, Shut}
+use Rattle.std.specs.Prelude.{Ok, Err}
 use Rattle.refusal.specs.declared.Refusal.{Refusal}
 use Rattle.refusal.specs.declared.Refusal.TheVariants.{RecordsShort, EntriesShort}
 use Rattle.refusal.specs.InNumbers.{InNumbers, gives, refuses}
-use Rattle.refusal.specs.Rows.{refuse_if, ◌then◌}
+use Rattle.refusal.specs.Rows.{Gate, refuse_if, ◌then◌}
 use Rattle.mesh.specs.Lists.{whole_row, limit_row, most_corners, most_quads, work_row, quad_words}
 use Rattle.mesh.specs.Cells.{corners_row, twice_row}
 use Rattle.cells.specs.Listed.{Entry}
 use Rattle.cells.specs.Holes.{holes}
 use Rattle.walk.specs.declared.Labelled.{Labelled}
-use Rattle.walk.specs.declared.Labelled.TheVariants.{Done, Refused}
 use Rattle.walk.specs.Input.{Input, quad_count, Answer}
 
 -- rows 1, 2, 5 and 6
@@ -48,27 +47,31 @@ abbrev pub entries_row : ℕ → ℕ → Gate
 entries_row words wanted = refuse_if (ltb (words / 3) wanted) (EntriesShort wanted)
 
 -- the answer in 01's numbers: how many components there are, and how many entries
-abbrev pub labelled_told : Labelled → InNumbers (ℕ × ℕ)
-labelled_told (Done components entries) = gives (components, entries)
-labelled_told (Refused why) = refuses (0, 0) why
+-- so many components and entries were written
+abbrev pub wrote : ℕ → ℕ → Result Labelled Refusal
+wrote components entries = Ok (record { components = components; entries = entries })
+
+abbrev pub labelled_told : Result Labelled Refusal → InNumbers (ℕ × ℕ)
+labelled_told (Ok counts) = gives (counts.components, counts.entries)
+labelled_told (Err why) = refuses (0, 0) why
 
 -- the answer, and the lists that could change
 pub record Outcome : Type 0 where
-  pub answer : Labelled
+  pub answer : Result Labelled Refusal
   pub work : List ℕ
   pub components : List ℕ
   pub entries : List ℕ
 
 -- where the rows before are open: by rows 9 and 10
 abbrev pub outcome_by : Gate → List (List Entry) → List ℕ → List ℕ → List ℕ → Outcome
-outcome_by Open out work components entries =
+outcome_by (Ok _) out work components entries =
     record {
-      answer = Done (length out) (length (all_entries out));
+      answer = wrote (length out) (length (all_entries out));
       work = replicate (length work) 0;
       components = component_words 0 out ++ drop (3 * length out) components;
       entries = entry_words (all_entries out) ++ drop (3 * length (all_entries out)) entries;
     }
-outcome_by (Shut why) out work components entries = record { answer = Refused why; work = replicate (length work) 0; components = components; entries = entries }
+outcome_by (Err why) out work components entries = record { answer = Err why; work = replicate (length work) 0; components = components; entries = entries }
 
 -- and so with the room that two lists have for the components and their entries
 abbrev pub outcome_in : List (List Entry) → (work components entries : List ℕ) → Outcome
@@ -76,6 +79,6 @@ outcome_in out work components entries =
     outcome_by (room_row (length components) (length out) then entries_row (length entries) (length (all_entries out))) out work components entries
 
 pub data Allowed (i : Input) (work components entries : List ℕ) : Outcome → Type 0 where
-  refused : (why : Refusal) → entry_gate i (length work) ≡ Shut why → Allowed i work components entries (record { answer = Refused why; work = work; components = components; entries = entries })
-  labelled : entry_gate i (length work) ≡ Open → (out : List (List Entry)) → Answer i out
+  refused : (why : Refusal) → entry_gate i (length work) ≡ Err why → Allowed i work components entries (record { answer = Err why; work = work; components = components; entries = entries })
+  labelled : entry_gate i (length work) ≡ Ok tt → (out : List (List Entry)) → Answer i out
       → Allowed i work components entries (outcome_in out work components entries)

@@ -1,7 +1,7 @@
 -- A call that is done, with its groups: which of them has a component, and what that lists.
+use Rattle.walk.specs.Call.{wrote}
 use Rattle.std.specs.Prelude.{◌≡◌, List, ℕ}
 use Rattle.cells.specs.Listed.{Entry, Grouping}
-use Rattle.walk.specs.declared.Labelled.TheVariants.{Done}
 use Rattle.walk.specs.Input.{Input, GroupsOf, grouping}
 use Rattle.walk.specs.Call.{Outcome, Allowed}
 use Rattle.walk.specs.Read.{component_at}
@@ -16,7 +16,7 @@ pub record DoneCall (input : Input) (outcome : Outcome) : Type 0 where
   pub allowed : Allowed input work components entries outcome
   pub k : ℕ
   pub l : ℕ
-  pub done : outcome.answer ≡ Done k l
+  pub done : outcome.answer ≡ wrote k l
   pub number : ℕ → ℕ
   pub groups : GroupsOf input number
   pub seed : ℕ → ℕ

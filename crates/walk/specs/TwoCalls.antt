@@ -1,9 +1,9 @@
 -- The call on two quads in both orders, whole: the words that it leaves, and what they list.
+use Rattle.walk.specs.Call.{wrote}
 use Rattle.std.specs.Prelude.{◌≡◌, List, [], ◌∷◌, ℕ, replicate}
 use Rattle.cells.specs.Quads.{quads}
 use Rattle.cells.specs.Reordered.{Joined}
 use Rattle.cells.specs.Orders.{opposite, opposite_back, lying, standing}
-use Rattle.walk.specs.declared.Labelled.TheVariants.{Done}
 use Rattle.walk.specs.Input.{Input}
 use Rattle.walk.specs.Call.{Outcome}
 use Rattle.walk.specs.DoneCall.{DoneCall, grouping_of, HasComponent, listing}
@@ -13,7 +13,7 @@ two_quads quads = record { quads = quads; corners = 6; params = record { quads =
 
 -- one component of six entries without a hole, in lists of just that room
 abbrev pub six_entries : List ℕ → Outcome
-six_entries entries = record { answer = Done 1 6; work = replicate 160 0; components = 0 ∷ 6 ∷ 0 ∷ []; entries = entries }
+six_entries entries = record { answer = wrote 1 6; work = replicate 160 0; components = 0 ∷ 6 ∷ 0 ∷ []; entries = entries }
 
 abbrev pub lying_words : List ℕ
 lying_words = 0 ∷ 0 ∷ 0 ∷ 0 ∷ 1 ∷ 3 ∷ 1 ∷ 0 ∷ 1 ∷ 1 ∷ 1 ∷ 2 ∷ 2 ∷ 0 ∷ 4 ∷ 2 ∷ 1 ∷ 5 ∷ []

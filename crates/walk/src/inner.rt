@@ -47,7 +47,7 @@ pub fn write_components(
     totals: Totals,
     components: &mut [u32],
     entries: &mut [u32],
-) -> Labelled
+) -> Result<Labelled, Refusal>
     requires writable { Writable work.old span n }
     requires counted { Counted (out_to work.old span n n) n totals.components totals.entries }
     ensures { ◌≡◌ {A = Outcome} (record { answer = result; work = work.new; components = components.new; entries = entries.new })
@@ -55,13 +55,16 @@ pub fn write_components(
 {
     if components.len() / 3 < totals.components {
         fill_zero(work);
-        return Labelled::Refused(Refusal::RecordsShort(totals.components as u32));
+        return Err(Refusal::RecordsShort(totals.components as u32));
     }
     if entries.len() / 3 < totals.entries {
         fill_zero(work);
-        return Labelled::Refused(Refusal::EntriesShort(totals.entries as u32));
+        return Err(Refusal::EntriesShort(totals.entries as u32));
     }
     write_out(work, span, n, components, entries);
     fill_zero(work);
-    Labelled::Done(totals.components as u32, totals.entries as u32)
+    Ok(Labelled {
+        components: totals.components as u32,
+        entries: totals.entries as u32,
+    })
 }

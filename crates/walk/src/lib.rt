@@ -8,18 +8,18 @@ ghost use Rattle.walk.specs.Call.{Allowed};
 use fates::LabelParams;
 use fates::inner::{compute, span_of};
 use inner::{count_components, write_components};
-use refusal::{Gate, Refusal};
+use refusal::Refusal;
 
 mod emit;
 mod gate;
 pub mod inner;
 mod rows;
 
-// How many components and entries were written, or why none were.
-#[derive(Drop)]
-pub enum Labelled {
-    Done(u32, u32),
-    Refused(Refusal),
+// How many components and entries were written.
+#[derive(Clone, Copy)]
+pub struct Labelled {
+    pub components: u32,
+    pub entries: u32,
 }
 
 // Writes the components of the groups in order of their lowest quads, and their entries in order of u, then v.
@@ -30,15 +30,12 @@ pub fn label_components(
     work: &mut [u32],
     components: &mut [u32],
     entries: &mut [u32],
-) -> Labelled
+) -> Result<Labelled, Refusal>
     ensures { Allowed (given quads.entry corners params)
         work.old components.old entries.old
         (record { answer = result; work = work.new; components = components.new; entries = entries.new }) }
 {
-    let gate = gate::entry(quads, corners as usize, work.len());
-    if let Gate::Shut(why) = gate {
-        return Labelled::Refused(why);
-    }
+    gate::entry(quads, corners as usize, work.len())?;
     let n = quads.len() / 4;
     let span = span_of(n, corners as usize);
     compute(quads, work, span, n, params);

@@ -1,7 +1,7 @@
 -- `label_frame` is allowed: the rows, then the stages and their counts, then what follows the labelling.
 use mathlib.Core.Path.{◌≡◌}
 use lib.ListN.{length}
-use Rattle.refusal.specs.declared.Gate.TheVariants.{Open}
+use Rattle.std.specs.Prelude.{Ok}
 use Rattle.frame.specs.Stages.{Input}
 use Rattle.frame.specs.Call.{entry_gate}
 use Rattle.frame.proofs.Outcomes.{shut, may_ask, shut_work, entered, may_emit, emitted}
@@ -15,7 +15,7 @@ abbrev open_input : In_default-room → Input
 open_input s = record { xs = s.args.x.now; ys = s.args.y.now; angles = s.args.angles.now; marks = s.args.marks.now; spreads = s.args.spreads.now; triangles = s.args.triangles.now; twins = s.args.twins.now; params = s.args.params }
 
 -- where all rows are open
-through : (c : In_default-room) → entry_gate (open_input c) (length c.args.work.now) ≡ Open
+through : (c : In_default-room) → entry_gate (open_input c) (length c.args.work.now) ≡ Ok tt
 through c = entered (open_input c) _ c.judge-gate.ensures c.in_default.is c.args.work.now _ c.work_gate-room.ensures c.in_default-room.is
 
 pub returns-in-Shut : goal.returns-in-Shut

@@ -1,10 +1,12 @@
 -- `root` meets the Root rule, and so is `root_of`: zero is its own root, a float above 0 has the root of its pattern, the rest is refused.
+use Rattle.std.specs.Prelude.{Result}
+use Rattle.refusal.specs.declared.Refusal.{Refusal}
+use Rattle.std.specs.Prelude.{Float}
 use mathlib.Core.Path.{◌≡◌, sym, ◌∙◌, subst}
 use native.Mathlib.Omega.{arith}
 use lib.Dec.{T}
 use lib.Ieee.{binary32, fits}
 use lib.Ieee.Positive.{positive}
-use Rattle.measure.specs.declared.Measured.{Measured}
 use Rattle.measure.specs.Root.{RootOf}
 use Rattle.measure.specs.RootComputed.{root_of}
 use Rattle.measure.proofs.PatternFloats.{positive_no_nan, positive_bits, bits_fine}
@@ -14,7 +16,7 @@ use Rattle.measure.proofs.root.Goals as goal
 use Rattle.measure.proofs.root.Goals.{Start, Then-is_positive}
 
 -- an answer of the rule is the function's answer too
-answer : (c : Start) {r : Measured} → RootOf c.args.x r → RootOf c.args.x r × (r ≡ root_of c.args.x)
+answer : (c : Start) {r : Result Float Refusal} → RootOf c.args.x r → RootOf c.args.x r × (r ≡ root_of c.args.x)
 answer c {r} h = (h, root_only c.args.x r (subst T (sym c.well_formed.0.1) tt) h)
 
 above : (c : Then-is_positive) → T (positive c.args.x)

@@ -3,7 +3,7 @@ ghost use Rattle.std.specs.Prelude.{◌≡◌, ℕ, ◌+◌, ◌*◌, ◌/◌, �
 ghost use Rattle.refusal.specs.First.{first_of};
 ghost use Rattle.mesh.specs.Cells.{not_below, corners_row, classes_row, some, names_twice, twice_row};
 
-use refusal::{Gate, Refusal};
+use refusal::Refusal;
 use words::inner::wide;
 
 // The first place whose word is not below the count, or the length.
@@ -21,27 +21,27 @@ fn first_not_below(words: &[u32], count: usize) -> usize
 }
 
 // Rows 1 and 2 have let through a list within the limit.
-pub fn corners_row(cells: &[u32], corners: usize) -> Gate
+pub fn corners_row(cells: &[u32], corners: usize) -> Result<(), Refusal>
     requires { length cells.now < 4294967296 }
     ensures { result ≡ corners_row corners cells.now }
 {
     let first = first_not_below(cells, corners);
     if first < cells.len() {
-        return Gate::Shut(Refusal::NoSuchCorner(first as u32));
+        return Err(Refusal::NoSuchCorner(first as u32));
     }
-    Gate::Open
+    Ok(())
 }
 
 // Rows 1 and 2 have let through a list within the limit.
-pub fn classes_row(classes: &[u32]) -> Gate
+pub fn classes_row(classes: &[u32]) -> Result<(), Refusal>
     requires { length classes.now < 4294967296 }
     ensures { result ≡ classes_row classes.now }
 {
     let first = first_not_below(classes, 3);
     if first < classes.len() {
-        return Gate::Shut(Refusal::NoSuchClass(first as u32));
+        return Err(Refusal::NoSuchClass(first as u32));
     }
-    Gate::Open
+    Ok(())
 }
 
 // Whether one of the i corners from `at` on is the corner at `at + i`.
@@ -92,13 +92,13 @@ fn first_twice(cells: &[u32], size: usize) -> usize
 }
 
 // The size is 3 or 4, by every caller's own record; row 2 has let through a list within the limit.
-pub fn twice_row(cells: &[u32], size: usize) -> Gate
+pub fn twice_row(cells: &[u32], size: usize) -> Result<(), Refusal>
     requires { (0 < size) × (length cells.now < 4294967296) }
     ensures { result ≡ twice_row size cells.now }
 {
     let first = first_twice(cells, size);
     if first < cells.len() / size {
-        return Gate::Shut(Refusal::CornerTwice(first as u32));
+        return Err(Refusal::CornerTwice(first as u32));
     }
-    Gate::Open
+    Ok(())
 }

@@ -2,7 +2,7 @@
 ghost use Rattle.std.specs.Prelude.{◌≡◌, ◌≤◌, ◌<◌};
 ghost use Rattle.mesh.specs.Lists.{paired_row, doubled_row, whole_row, limit_row, most_corners, most_half_edges, most_quads, work_row, quad_words, frame_words};
 
-use refusal::{Gate, Refusal};
+use refusal::Refusal;
 
 pub const MOST_CORNERS: usize = 4096;
 
@@ -10,53 +10,53 @@ pub const MOST_HALF_EDGES: usize = 24576;
 
 pub const MOST_QUADS: usize = 4096;
 
-pub fn paired_row(a: usize, b: usize) -> Gate
+pub fn paired_row(a: usize, b: usize) -> Result<(), Refusal>
     ensures { result ≡ paired_row a b }
 {
     if a == b {
-        Gate::Open
+        Ok(())
     } else {
-        Gate::Shut(Refusal::Unpaired)
+        Err(Refusal::Unpaired)
     }
 }
 
 // By half of a, since twice b may not fit.
-pub fn doubled_row(a: usize, b: usize) -> Gate
+pub fn doubled_row(a: usize, b: usize) -> Result<(), Refusal>
     ensures { result ≡ doubled_row a b }
 {
     if a % 2 == 0 {
         return paired_row(a / 2, b);
     }
-    Gate::Shut(Refusal::Unpaired)
+    Err(Refusal::Unpaired)
 }
 
 // The size is 3 or 4, by every caller's own record.
-pub fn whole_row(n: usize, size: usize) -> Gate
+pub fn whole_row(n: usize, size: usize) -> Result<(), Refusal>
     requires { 0 < size }
     ensures { result ≡ whole_row n size }
 {
     paired_row(n % size, 0)
 }
 
-pub fn limit_row(count: usize, most: usize) -> Gate
+pub fn limit_row(count: usize, most: usize) -> Result<(), Refusal>
     ensures { result ≡ limit_row count most }
 {
     if most < count {
-        Gate::Shut(Refusal::OverLimit)
+        Err(Refusal::OverLimit)
     } else {
-        Gate::Open
+        Ok(())
     }
 }
 
 // The words wanted are counted from numbers that row 2 let through.
-pub fn work_row(words: usize, wanted: usize) -> Gate
+pub fn work_row(words: usize, wanted: usize) -> Result<(), Refusal>
     requires { wanted < 4294967296 }
     ensures { result ≡ work_row words wanted }
 {
     if words < wanted {
-        Gate::Shut(Refusal::WorkspaceShort(wanted as u32))
+        Err(Refusal::WorkspaceShort(wanted as u32))
     } else {
-        Gate::Open
+        Ok(())
     }
 }
 

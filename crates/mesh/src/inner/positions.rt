@@ -4,7 +4,7 @@ ghost use Rattle.measure.specs.Position.{is_position};
 ghost use Rattle.refusal.specs.First.{first_of};
 ghost use Rattle.mesh.specs.Positions.{misplaced, positions_row};
 
-use refusal::{Gate, Refusal};
+use refusal::Refusal;
 
 fn both_positions(x: f32, y: f32) -> bool
     ensures { result ≡ (is_position x && is_position y) }
@@ -28,13 +28,13 @@ fn first_misplaced(x: &[f32], y: &[f32]) -> usize
 }
 
 // Rows 1 and 2 have let through lists of one length within the limit.
-pub fn positions_row(x: &[f32], y: &[f32]) -> Gate
+pub fn positions_row(x: &[f32], y: &[f32]) -> Result<(), Refusal>
     requires { (length y.now ≡ length x.now) × (length x.now < 4294967296) }
     ensures { result ≡ positions_row x.now y.now }
 {
     let first = first_misplaced(x, y);
     if first < x.len() {
-        return Gate::Shut(Refusal::OutOfRange(first as u32));
+        return Err(Refusal::OutOfRange(first as u32));
     }
-    Gate::Open
+    Ok(())
 }

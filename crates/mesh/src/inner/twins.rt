@@ -4,7 +4,7 @@ ghost use Rattle.refusal.specs.First.{first_of};
 ghost use Rattle.mesh.specs.Twins.{past_end, points_back, runs_back, twin_offends, twin_fault, twins_row};
 
 use crate::inner::half_edge::next_edge;
-use refusal::{Gate, Refusal};
+use refusal::Refusal;
 use words::inner::wide;
 
 pub const NO_TWIN: u32 = 0xFFFF_FFFF;
@@ -85,13 +85,13 @@ fn first_bad_twin(triangles: &[u32], twins: &[u32]) -> usize
 }
 
 // Rows 1 and 2 have let through whole lists of one length within the limit.
-pub fn twins_row(triangles: &[u32], twins: &[u32]) -> Gate
+pub fn twins_row(triangles: &[u32], twins: &[u32]) -> Result<(), Refusal>
     requires { (length triangles.now ≡ length twins.now) × (length twins.now % 3 ≡ 0) × (length twins.now < 4294967296) }
     ensures { result ≡ twins_row triangles.now twins.now }
 {
     let first = first_bad_twin(triangles, twins);
     if first < twins.len() {
-        return Gate::Shut(twin_fault(twins, first));
+        return Err(twin_fault(twins, first));
     }
-    Gate::Open
+    Ok(())
 }

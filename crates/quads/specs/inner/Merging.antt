@@ -1,13 +1,13 @@
 -- What the routines of merging are given: what the rows have shown of an input that they let through. And what the search for the next pair
 -- and the count of pairs answer.
+use Rattle.quads.specs.declared.Quad.{Quad}
+use Rattle.std.specs.Prelude.{Option, Some, None}
 use Rattle.std.specs.Prelude.{◌≡◌, Bool, true, false, ℕ, zero, suc, ◌+◌, ◌*◌, ◌%◌, ◌≤◌, ◌<◌, List, ◌++◌, length, get_or, drop}
 use Rattle.words.specs.Sorting.{one}
 use Rattle.mesh.specs.Lists.{most_corners, most_half_edges}
 use Rattle.mesh.specs.HalfEdge.{no_twin}
 use Rattle.mesh.specs.Cells.{names_twice}
 use Rattle.mesh.specs.Twins.{twin_offends}
-use Rattle.quads.specs.declared.Pairing.{Pairing}
-use Rattle.quads.specs.declared.Pairing.TheVariants.{Alone, Four}
 use Rattle.quads.specs.Merge.{Mesh, Input, triangle_count, paired_at, merged_of}
 use Rattle.quads.specs.Call.{words_of}
 use Rattle.quads.specs.inner.Ordering.{Standing}
@@ -29,9 +29,9 @@ pub record Sound (i : Input) : Type 0 where
   pub differ : (t : ℕ) → t < triangle_count i.mesh → names_twice 3 i.mesh.triangles t ≡ false
   pub back : (e : ℕ) → e < length i.mesh.triangles → twin_offends i.mesh.triangles i.mesh.twins e ≡ false
 
-abbrev pub is_four : Pairing → Bool
-is_four Alone = false
-is_four (Four q) = true
+abbrev pub is_four : Option Quad → Bool
+is_four None = false
+is_four (Some q) = true
 
 -- r is the first triangle from t on that makes a quad, or the number of triangles
 pub record NextPair (m : Mesh) (t r : ℕ) : Type 0 where

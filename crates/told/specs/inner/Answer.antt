@@ -1,10 +1,11 @@
 -- The line of a labelling's answer: the numbers of components and entries, or the refusal.
+use Rattle.std.specs.Prelude.{Result, Err}
+use Rattle.refusal.specs.declared.Refusal.{Refusal}
 use Rattle.std.specs.Prelude.{List, ℕ}
 use Rattle.vectors.specs.Hex.{refusal_line}
 use Rattle.vectors.specs.inner.Lines.{counts_line}
 use Rattle.walk.specs.declared.Labelled.{Labelled}
-use Rattle.walk.specs.declared.Labelled.TheVariants.{Done, Refused}
 
-abbrev pub answer_line : Labelled → List ℕ
-answer_line (Done components entries) = counts_line components entries
-answer_line (Refused why) = refusal_line why
+abbrev pub answer_line : Result Labelled Refusal → List ℕ
+answer_line (Ok counts) = counts_line counts.components counts.entries
+answer_line (Err why) = refusal_line why

@@ -8,8 +8,8 @@ returns-in_default c = rw c.in_default.is
 
 pub returns-then-d1-d0 : goal.returns-then-d1-d0
 unfolding nearer
-returns-then-d1-d0 c = rw (c.in-Known.is, c.if-d1-d0.true)
+returns-then-d1-d0 c = rw (c.in-Some.is, c.if-d1-d0.true)
 
 pub returns-else-d1-d0 : goal.returns-else-d1-d0
 unfolding nearer
-returns-else-d1-d0 c = rw (c.in-Known.is, c.if-d1-d0.false)
+returns-else-d1-d0 c = rw (c.in-Some.is, c.if-d1-d0.false)

@@ -8,7 +8,7 @@ returns-in_default-slot1 c = rw (c.in_default.is, c.in_default-slot1.is)
 
 pub returns-in_default : goal.returns-in_default
 unfolding nearer
-returns-in_default c = rw (c.in_default.is, c.in-Known-slot1.is)
+returns-in_default c = rw (c.in_default.is, c.in-Some-slot1.is)
 
 pub returns : goal.returns
-returns c = rw (c.in-Known.is, c.against.ensures)
+returns c = rw (c.in-Some.is, c.against.ensures)

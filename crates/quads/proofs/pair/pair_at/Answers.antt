@@ -11,9 +11,9 @@ returns-in_default c = rw (← c.only_diagonal-found.ensures, c.in_default.is)
 -- the only diagonal is one of t's own half-edges
 pub pair_across-requires : goal.pair_across-requires
 pair_across-requires c =
-    let own = only_own _ _ _ (sym c.only_diagonal-found.ensures ∙ c.in-At.is) in
+    let own = only_own _ _ _ (sym c.only_diagonal-found.ensures ∙ c.in-Some.is) in
     (c.requires.0, c.requires.1, own.0, own.1)
 
 pub returns : goal.returns
 unfolding paired_at paired_across
-returns c = rw (← c.only_diagonal-found.ensures, c.in-At.is, c.pair_across.ensures)
+returns c = rw (← c.only_diagonal-found.ensures, c.in-Some.is, c.pair_across.ensures)
