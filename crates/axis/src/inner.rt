@@ -2,7 +2,7 @@
 ghost use Rattle.std.specs.Prelude.{◌≡◌, ◌+◌, ◌*◌, ◌<◌, length};
 ghost use Rattle.axis.specs.Cache.{rule_row, informative_of, spread_from, cache_of, cache_at};
 
-use crate::{AxisCache, SpreadRule};
+use crate::{Axes, AxisCache, SpreadRule};
 use refusal::Refusal;
 
 // Row 18: there are the rules 1 and 2.
@@ -54,19 +54,19 @@ pub fn spread_from(mark: u32, spread: f32) -> Option<f32>
 }
 
 // The cache of a corner from lists with two slots a corner, which row 1 of the call has let through.
-pub fn cache_at(
-    angles: &[f32],
-    marks: &[u32],
-    spreads: &[f32],
-    corner: usize,
-    rule: SpreadRule,
-) -> AxisCache
-    requires { (2 * corner + 1 < length angles.now) × (2 * corner + 1 < length marks.now) × (2 * corner + 1 < length spreads.now) }
-    ensures { result ≡ cache_at rule angles.now marks.now spreads.now corner }
+pub fn cache_at(axes: Axes<'_>, corner: usize, rule: SpreadRule) -> AxisCache
+    requires { (2 * corner + 1 < length axes.angles.now) × (2 * corner + 1 < length axes.marks.now) × (2 * corner + 1 < length axes.spreads.now) }
+    ensures { result ≡ cache_at rule axes.entry.angles.now axes.entry.marks.now axes.entry.spreads.now corner }
 {
     let first = 2 * corner;
     let second = first + 1;
-    let spread0 = spread_from(marks[first], spreads[first]);
-    let spread1 = spread_from(marks[second], spreads[second]);
-    cache_of(angles[first], spread0, angles[second], spread1, rule)
+    let spread0 = spread_from(axes.marks[first], axes.spreads[first]);
+    let spread1 = spread_from(axes.marks[second], axes.spreads[second]);
+    cache_of(
+        axes.angles[first],
+        spread0,
+        axes.angles[second],
+        spread1,
+        rule,
+    )
 }

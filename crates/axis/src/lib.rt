@@ -15,6 +15,15 @@ pub struct SpreadRule {
     pub limit: f32,
 }
 
+// The axes of corners, in lists with two slots a corner: their angles, and their spreads, of which a mark of 0 says that there is none. Row 1
+// says whether these are of the lengths that belong together.
+#[derive(Clone, Copy)]
+pub struct Axes<'a> {
+    pub angles: &'a [f32],
+    pub marks: &'a [u32],
+    pub spreads: &'a [f32],
+}
+
 // Two angles and two informative marks, slot 0 first.
 #[derive(Clone, Copy)]
 pub struct AxisCache {

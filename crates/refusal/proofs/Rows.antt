@@ -9,7 +9,7 @@ use native.Mathlib.Omega.{arith}
 use Rattle.std.specs.Prelude.{Ok, Err}
 use Rattle.refusal.specs.declared.Refusal.{Refusal}
 use Rattle.refusal.specs.First.{first_of}
-use Rattle.refusal.proofs.First.{Clear, first_of_is}
+use Rattle.refusal.proofs.First.{Clear, first_of_is, first_found, first_none}
 use Rattle.refusal.specs.Rows.{Gate, refuse_if, refuse_first, ◌then◌}
 
 pub shut_open : (g : Gate) (why : Refusal) → g ≡ Err why → g ≡ Ok tt → ⊥
@@ -36,6 +36,14 @@ module _ (offends : ℕ → Bool) (n r : ℕ) (why : ℕ → Refusal) (first : r
   pub open_at : n ≤ r → Ok tt ≡ refuse_first offends n why
   unfolding refuse_first
   open_at h = rw (← first, le-ltb r n h)
+
+-- a search from the front that has come to i: it refuses there, where i offends, and lets through at the end
+module _ (offends : ℕ → Bool) (n i : ℕ) (why : ℕ → Refusal) (clear : Clear offends i) where
+  pub refused_here : i < n → offends i ≡ true → Err (why i) ≡ refuse_first offends n why
+  refused_here below e = shut_at offends n i why (first_found offends n i clear below e) below
+
+  pub none_refused : i ≤ n → n ≤ i → Ok tt ≡ refuse_first offends n why
+  none_refused reach all = open_at offends n i why (first_none offends n i clear reach all) all
 
 -- a searching row that is open: no place offends
 pub open_clear : (offends : ℕ → Bool) (n : ℕ) (why : ℕ → Refusal) → refuse_first offends n why ≡ Ok tt → Clear offends n
