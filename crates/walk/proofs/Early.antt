@@ -6,7 +6,7 @@ use mathlib.Core.List.{List}
 use Prim.Native.Nat.{ℕ, ◌/◌, ◌%◌}
 use lib.Dec.{eqb, ltb}
 use lib.ListN.{length}
-use Rattle.std.specs.Prelude.{Ok, Err}
+use Rattle.std.specs.Prelude.{Result, Ok, Err}
 use Rattle.refusal.specs.declared.Refusal.{Refusal}
 use Rattle.refusal.specs.declared.Refusal.TheVariants.{Unpaired, OverLimit, NoSuchCorner, CornerTwice, WorkspaceShort, RecordsShort, EntriesShort}
 use Rattle.refusal.specs.First.{first_of}
@@ -15,6 +15,7 @@ use Rattle.refusal.specs.Table.{number_of}
 use Rattle.refusal.proofs.Rows.{shut_open, one_why}
 use Rattle.mesh.specs.Lists.{paired_row, limit_row, most_corners, most_quads, work_row, quad_words}
 use Rattle.mesh.specs.Cells.{not_below, corners_row, names_twice, twice_row}
+use Rattle.walk.specs.declared.Labelled.{Labelled}
 use Rattle.walk.specs.Input.{Input, quad_count}
 use Rattle.walk.specs.Call.{gate_of, entry_gate, Outcome, Allowed}
 use Rattle.walk.specs.Call.Allowed.{refused, labelled}
@@ -70,12 +71,12 @@ entry_early i words =
 
 -- ---- rows 9 and 10
 
-pub not_9 : (g : Gate) → Early g → (why : Refusal) (w : ℕ) → g ≡ Err why → Err why ≡ Err (RecordsShort w) → ⊥
+pub not_9 : (g : Gate) → Early g → (why : Refusal) (w : ℕ) → g ≡ Err why → ◌≡◌ {A = Result Labelled Refusal} (Err why) (Err (RecordsShort w)) → ⊥
 not_9 g early why w e f =
     let s : why ≡ RecordsShort w = cc in
     false≢true (sym (early why e) ∙ ap of_room s)
 
-pub not_10 : (g : Gate) → Early g → (why : Refusal) (w : ℕ) → g ≡ Err why → Err why ≡ Err (EntriesShort w) → ⊥
+pub not_10 : (g : Gate) → Early g → (why : Refusal) (w : ℕ) → g ≡ Err why → ◌≡◌ {A = Result Labelled Refusal} (Err why) (Err (EntriesShort w)) → ⊥
 not_10 g early why w e f =
     let s : why ≡ EntriesShort w = cc in
     false≢true (sym (early why e) ∙ ap of_room s)

@@ -20,43 +20,6 @@ use Rattle.walk.specs.Input.{Input, quad_count}
 use Rattle.walk.specs.Call.{gate_of, entry_gate}
 use Rattle.laying.specs.inner.Layout.{Given}
 
--- ---- the order of rows
-
--- six rows, in two ways of three
-regrouped : (a b c d e f : Gate) → ((a then b then c then d then e) then f) ≡ ((a then b then c) then d then e then f)
-regrouped (Err why) b c d e f = refl
-regrouped (Ok _) (Err why) c d e f = refl
-regrouped (Ok _) (Ok _) (Err why) d e f = refl
-regrouped (Ok _) (Ok _) (Ok _) (Err why) e f = refl
-regrouped (Ok _) (Ok _) (Ok _) (Ok _) e f = refl
-
--- rows 1 and 2 as one, and those after them
-abbrev pub lengths_row : ℕ → ℕ → Gate
-lengths_row quads corners = whole_row quads 4 then limit_row corners most_corners then limit_row (quads / 4) most_quads
-
-abbrev pub values_row : List ℕ → ℕ → ℕ → Gate
-values_row quads corners words = corners_row corners quads then twice_row 4 quads then work_row words (quad_words (length quads / 4) corners)
-
-entry_rows : (i : Input) (words : ℕ) → entry_gate i words ≡ (lengths_row (length i.quads) i.corners then values_row i.quads i.corners words)
-unfolding entry_gate gate_of
-entry_rows i words =
-    regrouped (whole_row (length i.quads) 4) (limit_row i.corners most_corners) (limit_row (quad_count i) most_quads) (corners_row i.corners i.quads) (twice_row 4 i.quads)
-    (work_row words (quad_words (quad_count i) i.corners))
-
-pub entry_after : (i : Input) (words : ℕ) (g : Gate) → g ≡ lengths_row (length i.quads) i.corners → g ≡ Ok tt → values_row i.quads i.corners words ≡ entry_gate i words
-entry_after i words g e f = rw (entry_rows i words, ← e, f)
-
-pub entry_shut : (i : Input) (words : ℕ) (g : Gate) (why : Refusal) → g ≡ lengths_row (length i.quads) i.corners → g ≡ Err why → Err why ≡ entry_gate i words
-entry_shut i words g why e f = rw (entry_rows i words, ← e, f)
-
--- ---- what they let through
-
-pub lengths_open : (quads corners : ℕ) → lengths_row quads corners ≡ Ok tt → (quads % 4 ≡ 0) × (corners ≤ most_corners) × (quads / 4 ≤ most_quads)
-lengths_open quads corners e =
-    let e1 = open_both (whole_row quads 4) _ e in
-    let e2 = open_both (limit_row corners most_corners) (limit_row (quads / 4) most_quads) e1.1 in
-    (paired_open (quads % 4) 0 e1.0, limit_open corners most_corners e2.0, limit_open (quads / 4) most_quads e2.1)
-
 -- a quad that names no corner twice has four
 four_corners : (cells : List ℕ) (q i j : ℕ) → names_twice 4 cells q ≡ false → cell 4 cells q i ≡ cell 4 cells q j → i % 4 ≡ j % 4
 four_corners cells q i j clear e = go (dec_lt (i % 4) (j % 4)) (dec_lt (j % 4) (i % 4))
@@ -79,21 +42,26 @@ pub record Sound (i : Input) (words : ℕ) : Type 0 where
   pub room : 4 * span_of i + 27 * quad_count i ≤ words
 
 pub entry_sound : (i : Input) (words : ℕ) → entry_gate i words ≡ Ok tt → Sound i words
+unfolding entry_gate gate_of
 entry_sound i words e =
-    let all = open_both (lengths_row (length i.quads) i.corners) (values_row i.quads i.corners words) (sym (entry_rows i words) ∙ e) in
-    let l = lengths_open (length i.quads) i.corners all.0 in
-    let v = open_both (corners_row i.corners i.quads) _ all.1 in
-    let u = open_both (twice_row 4 i.quads) (work_row words (quad_words (quad_count i) i.corners)) v.1 in
-    let r = work_open words (quad_words (quad_count i) i.corners) u.1 in
-    let named = corners_open i.corners i.quads v.0 in
+    let all = open_both _ (work_row words (quad_words (quad_count i) i.corners)) e in
+    let a = open_both (whole_row (length i.quads) 4) _ all.0 in
+    let b = open_both (limit_row i.corners most_corners) _ a.1 in
+    let c = open_both (limit_row (quad_count i) most_quads) _ b.1 in
+    let d = open_both (corners_row i.corners i.quads) (twice_row 4 i.quads) c.1 in
+    let whole = paired_open (length i.quads % 4) 0 a.0 in
+    let few = limit_open (quad_count i) most_quads c.0 in
+    let most = limit_open i.corners most_corners b.0 in
+    let r = work_open words (quad_words (quad_count i) i.corners) all.1 in
+    let named = corners_open i.corners i.quads d.0 in
     record {
       given = record {
-        whole = omega (arith, l.0);
+        whole = omega (arith, whole);
         few = omega arith;
-        most = omega (arith, l.1, l.2);
+        most = omega (arith, most, few);
         below = λ k h. omega (arith, named k h);
-        distinct = λ q j m h. four_corners i.quads q j m (twice_open 4 i.quads u.0 q h);
+        distinct = λ q j m h. four_corners i.quads q j m (twice_open 4 i.quads d.1 q h);
       };
-      few = l.2;
+      few = few;
       room = omega (arith, r);
     }

@@ -1,6 +1,4 @@
 -- The call on two quads in both orders is as listed: by computation, and since there is one answer. Assumes nothing.
-use Rattle.std.specs.Prelude.{Result, Err}
-use Rattle.refusal.specs.declared.Refusal.{Refusal}
 use Rattle.walk.specs.Call.{wrote}
 use mathlib.Core.Path.{◌≡◌, refl, sym, ap, subst}
 use mathlib.Core.List.{List, [], ◌∷◌}
@@ -19,7 +17,6 @@ use Rattle.cells.specs.Orders.{opposite, opposite_back, lying, standing}
 use Rattle.cells.proofs.Groups.{one_answer}
 use Rattle.cells.proofs.Check.{groups_are}
 use Rattle.cells.proofs.Computed.{computed_are}
-use Rattle.walk.specs.declared.Labelled.{Labelled}
 use Rattle.walk.specs.Input.{GroupsOf, grouping, Answer}
 use Rattle.walk.specs.Call.{gate_of, entry_gate, entry_words, all_entries, component_words}
 use Rattle.walk.specs.Call.Allowed.{labelled}
@@ -28,6 +25,7 @@ use Rattle.walk.specs.DoneCall.{DoneCall, grouping_of, HasComponent}
 use Rattle.walk.specs.TwoCalls.{two_quads, six_entries, lying_words, standing_words, TwoCalls}
 use Rattle.walk.proofs.Determined.{one_out}
 use Rattle.walk.proofs.Demand.{answered}
+use Rattle.walk.proofs.Success.{components_told}
 use Rattle.walk.proofs.Order.{orders, done_call}
 
 abbrev zero_for_all : ℕ → ℕ
@@ -44,10 +42,6 @@ stands : Answer (two_quads opposite_back) (standing ∷ [])
 unfolding total
 stands = record { number = zero_for_all; groups = groups_are opposite_back zero_for_all refl; components = computed_are opposite_back (grouping (two_quads opposite_back) zero_for_all) 2 (omega arith) }
 
-components_told : Result Labelled Refusal → ℕ
-components_told (Ok counts) = counts.components
-components_told (Err why) = 0
-
 -- ---- the group of the first quad
 
 zero_at : (q : ℕ) → q < 2 → ◌≡◌ {A = ℕ} (get_or (0 ∷ 0 ∷ []) q 0) 0
@@ -61,7 +55,6 @@ module _ (x : DoneCall (two_quads opposite) (six_entries lying_words)) where
 
   -- the component is of the group of quad 0, as there is one group
   has_one : HasComponent x 0
-  unfolding components_told
   has_one =
       let one : 1 ≡ x.k = ap components_told x.done in
       let y = x.seeds.each 0 (omega arith) in
@@ -77,7 +70,7 @@ first_corner ([] ∷ out) = 0
 first_corner ((e ∷ es) ∷ out) = e.corner
 
 not_left : DoneCall (two_quads opposite_back) (six_entries lying_words) → ⊥
-unfolding entries_from components_from components_told first_corner
+unfolding entries_from components_from first_corner
 not_left x =
     let a = answered (two_quads opposite_back) x.work x.components x.entries (six_entries lying_words) x.allowed x.k x.l x.done in
     let b : Answer (two_quads opposite_back) (lying ∷ []) = subst (λ (k : ℕ). Answer (two_quads opposite_back) (components_from (0 ∷ 6 ∷ 0 ∷ []) lying_words 0 k)) (sym (ap components_told x.done)) a in

@@ -11,30 +11,15 @@ use mesh::inner::cells::{corners_row, twice_row};
 use mesh::inner::lists::{MOST_CORNERS, MOST_QUADS, limit_row, quad_words, whole_row, work_row};
 use refusal::Refusal;
 
-// Rows 1 and 2.
-fn lengths_gate(quads: usize, corners: usize) -> Result<(), Refusal>
-    ensures { result ≡ (whole_row quads 4 then limit_row corners most_corners then limit_row (quads / 4) most_quads) }
-{
-    whole_row(quads, 4)?;
-    limit_row(corners, MOST_CORNERS)?;
-    limit_row(quads / 4, MOST_QUADS)
-}
-
-// Rows 5, 6 and 8, for numbers that rows 1 and 2 let through.
-fn values_gate(quads: &[u32], corners: usize, words: usize) -> Result<(), Refusal>
-    requires { (corners ≤ most_corners) × (length quads.now / 4 ≤ most_quads) }
-    ensures { result ≡ (corners_row corners quads.now then twice_row 4 quads.now then work_row words (quad_words (length quads.now / 4) corners)) }
-{
-    corners_row(quads, corners)?;
-    twice_row(quads, 4)?;
-    work_row(words, quad_words(quads.len() / 4, corners))
-}
-
 // All rows but the ninth and the tenth.
-#[tactic(auto, unfolding(crate::specs::Call::entry_gate))]
+#[tactic(auto, unfolding(crate::specs::Call::entry_gate, crate::specs::Call::gate_of))]
 pub(crate) fn entry(quads: &[u32], corners: usize, words: usize) -> Result<(), Refusal>
     ensures { (p : LabelParams) → result ≡ entry_gate (given quads.entry corners p) words }
 {
-    lengths_gate(quads.len(), corners)?;
-    values_gate(quads, corners, words)
+    whole_row(quads.len(), 4)?;
+    limit_row(corners, MOST_CORNERS)?;
+    limit_row(quads.len() / 4, MOST_QUADS)?;
+    corners_row(quads, corners)?;
+    twice_row(quads, 4)?;
+    work_row(words, quad_words(quads.len() / 4, corners))
 }

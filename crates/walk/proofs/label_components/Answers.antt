@@ -1,5 +1,6 @@
 -- `label_components` is allowed: the rows, then the labelling, then the counts, then what follows them.
 use mathlib.Core.Path.{sym, ◌∙◌}
+use Rattle.std.proofs.lemmas.Result.{err_from_is_err_and}
 use Rattle.walk.specs.Input.{Input}
 use Rattle.walk.proofs.Outcomes.{shut, Entered, may_compute, may_emit, emitted}
 use Rattle.walk.proofs.label_components.Goals as goal
@@ -10,10 +11,12 @@ read s = record { quads = s.args.quads.now; corners = s.args.corners; params = s
 
 -- where the rows are open
 entered : (c : After-span_of-span) → Entered (read c) c.args.work.now c.span_of-span.result
-entered c = record { through = sym (c.entry-gate.ensures c.args.params) ∙ c.in_default.is; spanned = c.span_of-span.ensures }
+entered c = record { through = sym (c.entry.ensures c.args.params) ∙ c.in_ok-entry.was; spanned = c.span_of-span.ensures }
 
-pub returns-in-Shut : goal.returns-in-Shut
-returns-in-Shut c = shut _ _ _ _ _ _ (c.entry-gate.ensures c.args.params) c.in-Shut.is
+pub returns-in_err-entry : goal.returns-in_err-entry
+returns-in_err-entry c =
+    let p = err_from_is_err_and c.from_residual.result c.from_residual.ensures.1 in
+    rw (p.1, p.2) (shut _ _ _ _ _ _ (c.entry.ensures c.args.params) c.in_err-entry.was)
 
 pub compute-requires : goal.compute-requires
 compute-requires c =
