@@ -2,16 +2,15 @@
 -- the ends that the row's word tells, and so what they tell of the places between two neighbours are the holes there. Assumes nothing.
 use mathlib.Core.Path.{◌≡◌, sym, ap, ◌∙◌, fun_ext, subst}
 use mathlib.Core.Bool.{true}
-use mathlib.Core.List.{List}
+use mathlib.Core.List.{List, ◌++◌}
 use Prim.Native.Nat.{ℕ, suc, ◌+◌, ◌-◌, ◌/◌, ◌%◌, ◌≤◌, ◌<◌}
-use native.Mathlib.Nat.{zero-add}
+use native.Mathlib.Nat.{zero-add, sub-zero}
 use native.Mathlib.Numerals.{add-one}
 use native.Mathlib.Decide.{ℕ_discrete}
 use native.Mathlib.Omega.{arith}
 use borrow.Author.Tests.{eqb-true, ltb-true, eq-eqb, ne_eqb, lt-ltb}
 use lib.Dec.{eqb, ltb}
-use borrow.Rule.Slice.PartMut.{mid_of, put_mid}
-use lib.ListN.{length, get_or, set, replicate}
+use lib.ListN.{length, get_or, set, replicate, take, drop}
 use Rattle.words.specs.inner.Regions.{Kept, Filled}
 use Rattle.words.proofs.Regions.{set_cases, kept_refl, kept_trans, kept_set, filled_zero}
 use Rattle.cells.specs.Sums.{total, how_many}
@@ -204,8 +203,8 @@ module _ (w : List ℕ) (run : Run) (o : Ascending w run) where
 
 -- ---- from a front that is cleared
 
-pub front_cleared : (xs part : List ℕ) (m : ℕ) → m ≤ length xs → part ≡ replicate (length (mid_of 0 (m - 0) xs)) 0 → Filled xs (put_mid 0 (m - 0) xs part) 0 m m (λ (k : ℕ). 0)
-front_cleared xs part m h e = rw (zero-add m) at (filled_zero xs part 0 m (omega arith) (rw (zero-add m) e))
+pub front_cleared : (xs part : List ℕ) (m : ℕ) → m ≤ length xs → part ≡ replicate (length (take m xs)) 0 → Filled xs (part ++ drop m xs) 0 m m (λ (k : ℕ). 0)
+front_cleared xs part m h e = rw (zero-add m, sub-zero m) at (filled_zero xs part 0 m (omega arith) (rw (zero-add m, sub-zero m) e))
 
 -- a run's rows are noted of the list itself, since the words stand before its records
 noted_still : {xs ys : List ℕ} {run : Run} {m : ℕ} → height (entries_of xs run) ≤ run.at → Noted xs ys run m → Noted ys ys run m

@@ -17,7 +17,6 @@ use fates::inner::{fate_at, runs_at};
 use fates::{Fate, Run, Runs};
 use laying::inner::labels::from_word;
 use laying::inner::layout::{KEYS, SEEDS};
-use words::inner::{fill_zero, greater, lesser, wide};
 
 // The least words of a run.
 #[derive(Clone, Copy)]
@@ -48,16 +47,11 @@ fn y_of(work: &[u32], at: usize, k: usize) -> u32
 }
 
 // Whether a group of this fate is written.
+#[tactic(auto, unfolding(fates::specs::Judged::is_kept))]
 pub(crate) fn is_kept(fate: Fate) -> bool
     ensures { result ≡ is_kept fate }
 {
-    match fate {
-        Fate::NotLowest => false,
-        Fate::TooFewQuads => false,
-        Fate::NoLabelling => false,
-        Fate::TooFewLone(_) => false,
-        Fate::Kept(_) => true,
-    }
+    matches!(fate, Fate::Kept(_))
 }
 
 // One component of `count` entries more, if it is kept.
@@ -98,10 +92,8 @@ fn least_y(work: &[u32], run: Run) -> u32
     ensures { result ≡ least_y work.now run }
 {
     let mut y = KEYS;
-    let mut k = 0;
-    while k < run.count {
-        y = lesser(y_of(work, run.at, k), y);
-        k += 1;
+    for k in 0..run.count {
+        y = y_of(work, run.at, k).min(y);
     }
     y
 }
@@ -123,10 +115,8 @@ fn height_of(work: &[u32], run: Run, y: u32) -> u32
     ensures { (result ≡ height (entries_of work.now run)) × (result ≤ 32768) }
 {
     let mut high = 0u32;
-    let mut k = 0;
-    while k < run.count {
-        high = greater(high, shifted(y_of(work, run.at, k), y) + 1);
-        k += 1;
+    for k in 0..run.count {
+        high = high.max(shifted(y_of(work, run.at, k), y) + 1);
     }
     high
 }
@@ -138,11 +128,9 @@ fn note_rows(work: &mut [u32], run: Run, y: u32)
     requires noted { Noted work.old work.old run 0 }
     ensures { Noted work.old work.new run run.count }
 {
-    let mut k = 0;
-    while k < run.count {
-        let row = wide(shifted(y_of(work, run.at, k), y));
+    for k in 0..run.count {
+        let row = shifted(y_of(work, run.at, k), y) as usize;
         note(work, row, x_of(work, run.at, k));
-        k += 1;
     }
 }
 
@@ -157,8 +145,8 @@ fn gap_after(work: &[u32], run: Run, y: u32, k: usize) -> u32
     if x_of(work, run.at, k + 1) != x {
         return 0;
     }
-    let from = wide(shifted(y_of(work, run.at, k), y)) + 1;
-    let to = wide(shifted(y_of(work, run.at, k + 1), y));
+    let from = shifted(y_of(work, run.at, k), y) as usize + 1;
+    let to = shifted(y_of(work, run.at, k + 1), y) as usize;
     rows_around(work, from, to, x)
 }
 
@@ -170,10 +158,8 @@ fn gaps_of(work: &[u32], run: Run, y: u32) -> u32
     ensures { result ≡ holes (entries_of work.now run) }
 {
     let mut holes = 0u32;
-    let mut k = 0;
-    while k + 1 < run.count {
-        holes += gap_after(work, run, y, k);
-        k += 1;
+    for k in 1..run.count {
+        holes += gap_after(work, run, y, k - 1);
     }
     holes
 }
@@ -185,8 +171,8 @@ fn holes_of(work: &mut [u32], run: Run, y: u32) -> u32
     ensures value { result ≡ holes (entries_of work.old run) }
     ensures kept { Kept work.old work.new 0 (height (entries_of work.old run)) }
 {
-    let rows = wide(height_of(work, run, y));
-    fill_zero(&mut work[0..rows]);
+    let rows = height_of(work, run, y) as usize;
+    work[..rows].fill(0);
     note_rows(work, run, y);
     gaps_of(work, run, y)
 }
@@ -221,10 +207,8 @@ fn write_entries(work: &[u32], run: Run, least: Least, entries: &mut [u32], plac
     requires count_in_bounds { 3 * (place + run.count) ≤ length entries.old }
     ensures { entries.new ≡ pasted (3 * place) (entry_words (entries_of work.now run)) entries.old }
 {
-    let mut k = 0;
-    while k < run.count {
+    for k in 0..run.count {
         write_entry(work, run.at, k, least, entries, place + k);
-        k += 1;
     }
 }
 
@@ -289,12 +273,10 @@ pub(crate) fn write_out(
         components: 0,
         entries: 0,
     };
-    let mut s = 0;
-    while s < n {
+    for s in 0..n {
         let kept = is_kept(fate_at(work, span, n, s));
         let runs = runs_at(work, span, n, s);
         write_kept(work, runs, kept, totals, components, entries);
         totals = counted(totals, kept, runs.lone.count);
-        s += 1;
     }
 }

@@ -10,7 +10,6 @@ use crate::Labelled;
 use crate::emit::{counted, is_kept, write_out};
 use fates::inner::{fate_at, runs_at};
 use refusal::Refusal;
-use words::inner::fill_zero;
 
 // How many components, and how many entries in them.
 #[derive(Clone, Copy)]
@@ -28,12 +27,10 @@ pub fn count_components(work: &[u32], span: usize, n: usize) -> Totals
         components: 0,
         entries: 0,
     };
-    let mut s = 0;
-    while s < n {
+    for s in 0..n {
         let kept = is_kept(fate_at(work, span, n, s));
         let runs = runs_at(work, span, n, s);
         totals = counted(totals, kept, runs.lone.count);
-        s += 1;
     }
     totals
 }
@@ -54,15 +51,15 @@ pub fn write_components(
         (outcome_in (out_to work.old span n n) work.old components.old entries.old) }
 {
     if components.len() / 3 < totals.components {
-        fill_zero(work);
+        work.fill(0);
         return Err(Refusal::RecordsShort(totals.components as u32));
     }
     if entries.len() / 3 < totals.entries {
-        fill_zero(work);
+        work.fill(0);
         return Err(Refusal::EntriesShort(totals.entries as u32));
     }
     write_out(work, span, n, components, entries);
-    fill_zero(work);
+    work.fill(0);
     Ok(Labelled {
         components: totals.components as u32,
         entries: totals.entries as u32,

@@ -46,10 +46,8 @@ pub(crate) fn rows_around(work: &[u32], from: usize, to: usize, x: u32) -> u32
     ensures { (result ≡ how_many (λ (j : ℕ). tells_around (get_or work.now (from + j) 0) x) (to - from)) × (result ≤ 32768) }
 {
     let mut count = 0u32;
-    let mut row = from;
-    while row < to {
+    for row in from..to {
         count += around(work[row], x);
-        row += 1;
     }
     count
 }

@@ -10,7 +10,7 @@ use Rattle.walk.proofs.emit.height_of.Goals as goal
 
 pub loop-k-init : goal.loop-k-init
 unfolding height
-loop-k-init c = let z = c.args in (omega arith, sym (ap height (none_yet z.work.now z.run.at (least_x z.work.now z.run) z.y)), omega arith)
+loop-k-init c = let z = c.args in (sym (ap height (none_yet z.work.now z.run.at (least_x z.work.now z.run) z.y)), omega arith)
 
 pub shifted-requires : goal.shifted-requires
 shifted-requires c =
@@ -24,10 +24,10 @@ loop-k-preserved c =
     let l = c.loop-k in
     let v = c.shifted.ensures in
     let e = height_more z.work.now z.run.at (least_x z.work.now z.run) z.y l.k in
-    (omega arith, rw (add-one l.k) (omega (arith, c.greater-high.ensures, c.y_of.ensures)), omega (arith, c.greater-high.ensures, c.y_of.ensures))
+    (rw (add-one l.k) (omega (arith, c.max-high.ensures, c.y_of.ensures)), omega (arith, c.max-high.ensures, c.y_of.ensures))
 
 pub returns : goal.returns
 returns c =
     let l = c.loop-k in
     let e : l.k ≡ c.args.run.count = omega arith in
-    (rw (e, c.requires.y_value) at l.invariant.1, l.invariant.2)
+    (rw (e, c.requires.y_value) at l.invariant.0, l.invariant.1)

@@ -6,7 +6,4 @@ use Rattle.walk.specs.inner.Emitted.{least_x, entries_to}
 use Rattle.walk.proofs.emit.height_of.Given as goal
 
 abbrev pub invariant-loop-k : goal.invariant-loop-k
-invariant-loop-k l = (l.k ≤ l.run.count) × (l.high ≡ height (entries_to l.work l.run.at (least_x l.work l.run) l.y l.k)) × (l.high ≤ 32768)
-
-abbrev pub decreases-loop-k : goal.decreases-loop-k
-decreases-loop-k l = l.run.count - l.k
+invariant-loop-k l = (l.high ≡ height (entries_to l.work l.run.at (least_x l.work l.run) l.y l.k)) × (l.high ≤ 32768)

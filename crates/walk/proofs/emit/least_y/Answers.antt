@@ -16,10 +16,10 @@ loop-k-preserved c =
     let z = c.args in
     let l = c.loop-k in
     let e = least_more (y_in z.work.now z.run.at) l.k in
-    (omega arith, rw (add-one l.k) (omega (arith, e, c.lesser-y.ensures, c.y_of.ensures, l.invariant.1)))
+    rw (add-one l.k) (omega (arith, e, c.min-y.ensures, c.y_of.ensures, l.invariant))
 
 pub returns : goal.returns
 returns c =
     let l = c.loop-k in
     let e : l.k ≡ c.args.run.count = omega arith in
-    rw e at l.invariant.1
+    rw e at l.invariant

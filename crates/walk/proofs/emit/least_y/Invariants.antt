@@ -5,7 +5,4 @@ use Rattle.walk.specs.inner.Emitted.{y_in, least_of}
 use Rattle.walk.proofs.emit.least_y.Given as goal
 
 abbrev pub invariant-loop-k : goal.invariant-loop-k
-invariant-loop-k l = (l.k ≤ l.run.count) × (l.y ≡ least_of (y_in l.work l.run.at) l.k)
-
-abbrev pub decreases-loop-k : goal.decreases-loop-k
-decreases-loop-k l = l.run.count - l.k
+invariant-loop-k l = (l.y ≡ least_of (y_in l.work l.run.at) l.k)

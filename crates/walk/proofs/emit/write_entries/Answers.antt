@@ -17,7 +17,7 @@ pub loop-k-init : goal.loop-k-init
 unfolding entry_words
 loop-k-init c =
     let z = c.args in
-    (omega arith, sym (ap (λ (es : List Entry). pasted (3 * z.place) (entry_words es) z.entries.now) (none_yet z.work.now z.run.at z.least.x z.least.y) ∙ pasted_none (3 * z.place) z.entries.now), refl)
+    (sym (ap (λ (es : List Entry). pasted (3 * z.place) (entry_words es) z.entries.now) (none_yet z.work.now z.run.at z.least.x z.least.y) ∙ pasted_none (3 * z.place) z.entries.now), refl)
 
 pub write_entry-requires : goal.write_entry-requires
 write_entry-requires c =
@@ -25,19 +25,19 @@ write_entry-requires c =
     let l = c.loop-k in
     let o = c.requires.ascending in
     let h : l.k < z.run.count = omega arith in
-    record { k_in_bounds = (omega (arith, o.room), o.keys l.k h); least_bounds = (omega (arith, c.requires.x_value.0, x_low z.work.now z.run o l.k h), omega (arith, c.requires.x_value.1, y_low z.work.now z.run o l.k h)); place_in_bounds = omega (arith, l.invariant.2, c.requires.count_in_bounds) }
+    record { k_in_bounds = (omega (arith, o.room), o.keys l.k h); least_bounds = (omega (arith, c.requires.x_value.0, x_low z.work.now z.run o l.k h), omega (arith, c.requires.x_value.1, y_low z.work.now z.run o l.k h)); place_in_bounds = omega (arith, l.invariant.1, c.requires.count_in_bounds) }
 
 pub loop-k-preserved : goal.loop-k-preserved
 loop-k-preserved c =
     let z = c.args in
     let l = c.loop-k in
     let stored = c.write_entry.ensures in
-    let more = entries_pasted z.work.now z.run.at z.least.x z.least.y l.k z.place z.entries.now l.entries (omega (arith, c.requires.count_in_bounds)) l.invariant.1 in
-    (omega arith, stored ∙ more, search rules)
+    let more = entries_pasted z.work.now z.run.at z.least.x z.least.y l.k z.place z.entries.now l.entries (omega (arith, c.requires.count_in_bounds)) l.invariant.0 in
+    (stored ∙ more, search rules)
 
 pub returns : goal.returns
 returns c =
     let z = c.args in
     let l = c.loop-k in
     let e : l.k ≡ z.run.count = omega arith in
-    rw (e, c.requires.x_value.0, c.requires.x_value.1) at l.invariant.1
+    rw (e, c.requires.x_value.0, c.requires.x_value.1) at l.invariant.0

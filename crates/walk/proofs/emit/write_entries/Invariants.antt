@@ -8,7 +8,4 @@ use Rattle.walk.specs.inner.Emitting.{pasted}
 use Rattle.walk.proofs.emit.write_entries.Given as goal
 
 abbrev pub invariant-loop-k : goal.invariant-loop-k
-invariant-loop-k l = (l.k ≤ l.run.count) × (l.entries ≡ pasted (3 * l.place) (entry_words (entries_to l.work l.run.at l.least.x l.least.y l.k)) l.initial.entries) × (length l.entries ≡ length l.initial.entries)
-
-abbrev pub decreases-loop-k : goal.decreases-loop-k
-decreases-loop-k l = l.run.count - l.k
+invariant-loop-k l = (l.entries ≡ pasted (3 * l.place) (entry_words (entries_to l.work l.run.at l.least.x l.least.y l.k)) l.initial.entries) × (length l.entries ≡ length l.initial.entries)

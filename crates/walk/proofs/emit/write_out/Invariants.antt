@@ -9,8 +9,5 @@ use Rattle.walk.proofs.Counting.{Counting}
 use Rattle.walk.proofs.emit.write_out.Given as goal
 
 abbrev pub invariant-loop-s : goal.invariant-loop-s
-invariant-loop-s l = (l.s ≤ l.n) × Counting l.initial.work l.span l.n l.s l.totals.components l.totals.entries × Written (out_to l.initial.work l.span l.n l.s) l.initial.components l.initial.entries l.components l.entries × (length l.components ≡ length l.initial.components) × (length l.entries ≡ length l.initial.entries)
+invariant-loop-s l = Counting l.initial.work l.span l.n l.s l.totals.components l.totals.entries × Written (out_to l.initial.work l.span l.n l.s) l.initial.components l.initial.entries l.components l.entries × (length l.components ≡ length l.initial.components) × (length l.entries ≡ length l.initial.entries)
     × Kept l.initial.work l.work 0 (4 * l.span)
-
-abbrev pub decreases-loop-s : goal.decreases-loop-s
-decreases-loop-s l = l.n - l.s

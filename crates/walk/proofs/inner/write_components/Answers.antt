@@ -15,13 +15,13 @@ pub overflow_cast-result : goal.overflow_cast-result
 overflow_cast-result c = omega (arith, words (goal.at.overflow_cast-result c).Start)
 
 pub returns-then-components-totals : goal.returns-then-components-totals
-returns-then-components-totals c = short c.requires.counted _ _ _ _ c.fill_zero.ensures c.if-components-totals.true
+returns-then-components-totals c = short c.requires.counted _ _ _ _ (c.fill.ensures.after (λ y e. e)) c.if-components-totals.true
 
 pub overflow_cast-result-then-entries-totals : goal.overflow_cast-result-then-entries-totals
 overflow_cast-result-then-entries-totals c = omega (arith, words (goal.at.overflow_cast-result-then-entries-totals c).Start)
 
 pub returns-then-entries-totals : goal.returns-then-entries-totals
-returns-then-entries-totals c = short_entries c.requires.counted _ _ _ _ c.fill_zero-then-entries-totals.ensures c.if-components-totals.false c.if-entries-totals.true
+returns-then-entries-totals c = short_entries c.requires.counted _ _ _ _ (c.fill-then-entries-totals.ensures.after (λ y e. e)) c.if-components-totals.false c.if-entries-totals.true
 
 pub write_out-requires : goal.write_out-requires
 write_out-requires c = record { writable = c.requires.writable; n_in_bounds = may_write c.requires.counted c.args.components.now c.args.entries.now c.if-components-totals.false c.if-entries-totals.false }
@@ -34,5 +34,5 @@ overflow_cast-result-3 c = omega (arith, words (goal.at.overflow_cast-result-3 c
 
 pub returns : goal.returns
 returns c =
-    let zeroed = c.fill_zero-2.ensures ∙ ap (λ (n : ℕ). replicate n 0) c.write_out.auto.work in
+    let zeroed = (c.fill-2.ensures.after (λ y e. e)) ∙ ap (λ (n : ℕ). replicate n 0) c.write_out.auto.work in
     done c.requires.counted _ _ _ _ zeroed _ _ c.if-components-totals.false c.if-entries-totals.false c.write_out.ensures

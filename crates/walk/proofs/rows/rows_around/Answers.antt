@@ -12,7 +12,7 @@ pub loop-row-init : goal.loop-row-init
 unfolding total
 loop-row-init c =
     let none : c.args.from - c.args.from ≡ 0 = omega arith in
-    (omega arith, omega arith, rw none refl, omega arith)
+    (omega arith, rw none refl, omega arith)
 
 pub loop-row-preserved : goal.loop-row-preserved
 unfolding total
@@ -23,8 +23,7 @@ loop-row-preserved c =
     let one_more : l.row + 1 - s.from ≡ suc d = omega arith in
     let here : s.from + d ≡ l.row = omega arith in (
       omega arith,
-      omega arith,
-      ap₂ ◌+◌ l.invariant.2 (c.around-count.ensures.0 ∙ ap (λ (p : ℕ). cond (tells_around (get_or s.work.now p 0) s.x) 1 0) (sym here))
+      ap₂ ◌+◌ l.invariant.1 (c.around-count.ensures.0 ∙ ap (λ (p : ℕ). cond (tells_around (get_or s.work.now p 0) s.x) 1 0) (sym here))
           ∙ ap (how_many (λ (j : ℕ). tells_around (get_or s.work.now (s.from + j) 0) s.x)) (sym one_more),
       omega (arith, c.around-count.ensures.1),
     )
@@ -34,4 +33,4 @@ returns c =
     let s = c.args in
     let l = c.loop-row in
     let all : l.row - s.from ≡ s.to - s.from = omega arith in
-    (rw all at l.invariant.2, omega arith)
+    (rw all at l.invariant.1, omega arith)

@@ -7,7 +7,4 @@ use Rattle.walk.specs.inner.Rows.{tells_around}
 use Rattle.walk.proofs.rows.rows_around.Given as goal
 
 abbrev pub invariant-loop-row : goal.invariant-loop-row
-invariant-loop-row l = (l.from ≤ l.row) × (l.row ≤ max l.from l.to) × (l.count ≡ how_many (λ (j : ℕ). tells_around (get_or l.work (l.from + j) 0) l.x) (l.row - l.from)) × (l.count ≤ l.row - l.from)
-
-abbrev pub decreases-loop-row : goal.decreases-loop-row
-decreases-loop-row l = l.to - l.row
+invariant-loop-row l = (l.row ≤ max l.from l.to) × (l.count ≡ how_many (λ (j : ℕ). tells_around (get_or l.work (l.from + j) 0) l.x) (l.row - l.from)) × (l.count ≤ l.row - l.from)
