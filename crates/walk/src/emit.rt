@@ -182,9 +182,7 @@ fn store(list: &mut [u32], place: usize, a: u32, b: u32, c: u32)
     requires { 3 * place + 2 < length list.old }
     ensures { list.new ≡ pasted (3 * place) (a ∷ b ∷ c ∷ []) list.old }
 {
-    list[3 * place] = a;
-    list[3 * place + 1] = b;
-    list[3 * place + 2] = c;
+    list[3 * place..3 * place + 3].copy_from_slice(&[a, b, c]);
 }
 
 // Record k as an entry, with its words less the least.

@@ -12,7 +12,7 @@ use fates::inner::{fate_at, runs_at};
 use refusal::Refusal;
 
 // How many components, and how many entries in them.
-#[derive(Clone, Copy)]
+#[derive(Clone, Copy, Debug, PartialEq, Eq)]
 pub struct Totals {
     pub components: usize,
     pub entries: usize,

@@ -16,7 +16,7 @@ pub mod inner;
 mod rows;
 
 // How many components and entries were written.
-#[derive(Clone, Copy)]
+#[derive(Clone, Copy, Debug, PartialEq, Eq)]
 pub struct Labelled {
     pub components: u32,
     pub entries: u32,

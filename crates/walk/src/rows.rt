@@ -31,13 +31,7 @@ fn around(word: u32, x: u32) -> u32
 {
     let least = word / KEYS;
     let greatest = word % KEYS;
-    if x <= least {
-        return 0;
-    }
-    if greatest <= x {
-        return 0;
-    }
-    1
+    u32::from(least < x && x < greatest)
 }
 
 // How many rows from `from` up to `to` have records on both sides of x.
