@@ -17,7 +17,7 @@ use Rattle.laying.proofs.Flagged.{met_still}
 
 -- ---- parts
 
-pub grows_refl : {span : ℕ} (xs : List ℕ) (t : ℕ) → Grows span xs xs t t
+grows_refl : {span : ℕ} (xs : List ℕ) (t : ℕ) → Grows span xs xs t t
 grows_refl xs t = record { more = omega arith; kept = λ i h. refl; still = λ q h m e. m e; words = λ c h m. record { first = refl; second = refl } }
 
 grows_trans : {span : ℕ} {xs ys zs : List ℕ} {a b c : ℕ} → Grows span xs ys a b → Grows span ys zs b c → Grows span xs zs a c

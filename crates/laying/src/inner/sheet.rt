@@ -1,5 +1,5 @@
-// The quads of a walk: a list of n quads of four distinct corners below `span`, which a value of `Sheet` has by its type. Corners are
-// counted round, and the sense of a side goes by its ends.
+// The quads of a walk: `count` quads of four distinct corners below `span`, no more of them than `span`; a value of `Sheet` is so by its
+// type. Corners are counted round, and the sense of a side goes by its ends.
 ghost use Rattle.std.specs.Prelude.{◌≡◌, ◌*◌, ◌<◌};
 ghost use Rattle.cells.specs.Cells.{cell};
 ghost use Rattle.laying.specs.inner.Layout.{Given, sense};
