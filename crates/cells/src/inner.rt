@@ -13,11 +13,11 @@ pub fn groups(cells: &[u32], size: usize, n: usize, work: &mut [u32])
     requires n_in_bounds { groups_end size n ≤ length work.old }
     ensures { Grouped size cells.now n work.old work.new }
 {
-    let all = Cells {
+    let cells = Cells {
         corners: cells,
         size,
         count: n,
     };
-    all.list_sides(work);
+    cells.list_sides(work);
     sides::unite(work, n, size * n);
 }

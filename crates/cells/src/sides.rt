@@ -67,7 +67,12 @@ impl<'a> Cells<'a> {
     {
         for i in 0..self.size {
             let key = self.table_key(work, q, i);
-            put(work, 2 * self.count + 2 * (self.size * q + i), key, (4 * q + i) as u32);
+            put(
+                work,
+                2 * self.count + 2 * (self.size * q + i),
+                key,
+                (4 * q + i) as u32,
+            );
         }
     }
 

@@ -1,5 +1,4 @@
 -- `link_at`: by its two tests, and the words that it reads are those of records h and h + 1.
-use mathlib.Core.Path.{refl}
 use Prim.Native.Nat.{◌+◌}
 use native.Mathlib.Omega.{arith}
 use Rattle.cells.proofs.Part.{groups_length}
@@ -18,4 +17,4 @@ join-requires c =
     record { low = c.requires.classes.low; a_in_bounds = (rw len (c.requires.ready.within c.args.h (omega arith)), rw (len, ← next_number c.args.n c.args.work.now c.args.h) (c.requires.ready.within (c.args.h + 1) (omega arith))); p_len_bound = omega arith }
 
 pub returns : goal.returns
-returns c = one_key _ _ _ c.requires.classes _ _ _ (omega arith) c.join.ensures c.if-work-at-eq0.false c.if-work-at.false refl refl
+returns c = one_key _ _ _ c.requires.classes _ (omega arith) c.join.ensures c.if-work-at-eq0.false c.if-work-at.false

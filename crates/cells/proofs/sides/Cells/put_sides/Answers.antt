@@ -12,11 +12,11 @@ loop-i-init c = λ xs t. rw add-zero t
 pub loop-i-preserved : goal.loop-i-preserved
 loop-i-preserved c =
     λ xs t.
-        let T = c.loop-i.invariant xs t in
-        rw c.put.ensures (tabled_more _ _ _ _ _ _ _ _ _ T (omega arith) c.requires.has.0 (omega (arith, T.kept.len)) c.table_key-key.ensures refl _ (omega arith))
+    let T = c.loop-i.invariant xs t in
+    rw c.put.ensures (tabled_more _ _ _ _ _ _ _ _ _ T (omega arith) c.requires.has.0 (omega (arith, T.kept.len)) c.table_key-key.ensures refl _ (omega arith))
 
 pub returns : goal.returns
 returns c =
     λ xs t.
-        let e : c.loop-i.i ≡ c.args.self.size = omega arith in
-        rw cell_after (rw e at (c.loop-i.invariant xs t))
+    let e : c.loop-i.i ≡ c.args.self.size = omega arith in
+    rw cell_after (rw e at (c.loop-i.invariant xs t))
