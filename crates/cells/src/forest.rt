@@ -1,5 +1,6 @@
 // Classes of numbers by union-find in a lent list: each number points at itself or lower, and all of a class have one root.
-// A caller may rely on the classes alone; which number of its class one points at, before `flatten`, is left open.
+// A caller may rely on the classes alone; which number of its class one points at, before `flatten`, is left open. The list stays a slice:
+// the workspace lends it anew for each pair of cells, so that a struct would have to be made, and `Low` to be shown of it, each time.
 ghost use Rattle.std.specs.Prelude.{◌≤◌, ◌<◌, length};
 ghost use Rattle.cells.specs.inner.Forest.{Low, Found, Joined, Alone, Flat};
 ghost use Rattle.cells.specs.inner.Table.{most_cells};

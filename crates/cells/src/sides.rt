@@ -1,10 +1,10 @@
 // The table of the sides of cells of 3 or 4 corners: two words for each, a key that says its ends and a number that says whose it is.
-// In order of keys, the sides of one key stand together, and their cells are made one group.
-// In the workspace marks stand at 0, groups at n, the table at 2 * n, and room for its ordering after it.
+// In order of keys, the sides of one key stand together, and their cells are made one group. In the workspace marks stand at 0, groups at n, the table at 2 * n, and room for its ordering after it. The routines that link cells take
+// it and n as they are: what they are asked for (`Ready`) is a fact of the workspace, which they change, and of no value of its own.
 ghost use Rattle.std.specs.Prelude.{◌≡◌, List, ℕ, ◌+◌, ◌*◌, ◌-◌, ◌%◌, ◌≤◌, ◌<◌, length};
 ghost use Rattle.cells.specs.Cells.{Has};
 ghost use Rattle.cells.specs.inner.Forest.{Classes};
-ghost use Rattle.cells.specs.inner.Table.{Corners, Sound, groups_end, most_cells};
+ghost use Rattle.cells.specs.inner.Table.{Sound, groups_end};
 ghost use Rattle.cells.specs.inner.Sides.{ends_key, side_key, table_key, Tabled, Tabulated, Adjacent, Ready, groups_of, United, Named};
 
 use crate::forest;
@@ -41,7 +41,7 @@ pub(crate) struct Cells<'a> {
 impl<'a> Cells<'a> {
     fn side_key(self, q: usize, i: usize) -> u32
         requires { (i < self.size) × Has self.size self.corners.now q }
-        ensures { result ≡ side_key self.entry.size self.entry.corners.now q i }
+        ensures { let z = self.entry in result ≡ side_key z.size z.corners.now q i }
     {
         let at = self.size * q;
         let next = next_side(self.size, i);
@@ -51,7 +51,7 @@ impl<'a> Cells<'a> {
     // No side has the key 0: it is that of a marked cell's.
     fn table_key(self, work: &[u32], q: usize, i: usize) -> u32
         requires { (i < self.size) × Has self.size self.corners.now q × (q < length work.now) }
-        ensures { result ≡ table_key self.entry.size self.entry.corners.now work.now q i }
+        ensures { let z = self.entry in result ≡ table_key z.size z.corners.now work.now q i }
     {
         if work[q] != 0 {
             return 0;
@@ -59,27 +59,24 @@ impl<'a> Cells<'a> {
         self.side_key(q, i)
     }
 
-    // The records of one cell's sides, in order, behind those of the cells before it.
+    // The records of one cell's sides, in order, behind those of the cells before it; xs is the list on which the table was begun.
     fn put_sides(self, work: &mut [u32], q: usize)
         requires has { (q < self.count) × Has self.size self.corners.now q }
         requires n_in_bounds { groups_end self.size self.count ≤ length work.old }
-        ensures { (xs : List ℕ) → Tabled self.entry.size self.entry.corners.now self.entry.count xs work.old (self.entry.size * q) → Tabled self.entry.size self.entry.corners.now self.entry.count xs work.new (self.entry.size * (q + 1)) }
+        ensures { let z = self.entry in (xs : List ℕ) →
+            Tabled z.size z.corners.now z.count xs work.old (z.size * q) → Tabled z.size z.corners.now z.count xs work.new (z.size * (q + 1)) }
     {
         for i in 0..self.size {
             let key = self.table_key(work, q, i);
-            put(
-                work,
-                2 * self.count + 2 * (self.size * q + i),
-                key,
-                (4 * q + i) as u32,
-            );
+            let at = 2 * self.count + 2 * (self.size * q + i);
+            put(work, at, key, (4 * q + i) as u32);
         }
     }
 
     // The table by cells.
     fn fill(self, work: &mut [u32])
         requires { groups_end self.size self.count ≤ length work.old }
-        ensures { Tabled self.entry.size self.entry.corners.now self.entry.count work.old work.new (self.entry.size * self.entry.count) }
+        ensures { let z = self.entry in Tabled z.size z.corners.now z.count work.old work.new (z.size * z.count) }
     {
         for q in 0..self.count {
             self.put_sides(work, q);
@@ -89,7 +86,7 @@ impl<'a> Cells<'a> {
     // The table in order of keys, so that the sides of one key stand together.
     pub(crate) fn list_sides(self, work: &mut [u32])
         requires { groups_end self.size self.count ≤ length work.old }
-        ensures { Tabulated self.entry.size self.entry.corners.now self.entry.count work.old work.new }
+        ensures { let z = self.entry in Tabulated z.size z.corners.now z.count work.old work.new }
     {
         self.fill(work);
         let n = self.count;
