@@ -1,5 +1,5 @@
 -- Neighbours of one key in the table: taken one by one, as they are met, they make the classes that the whole table makes. Assumes nothing.
-use mathlib.Core.Path.{◌≡◌, sym, ap, ◌∙◌}
+use mathlib.Core.Path.{◌≡◌, refl, sym, ap, ◌∙◌}
 use mathlib.Core.Logic.{◌⊎◌, inl, inr}
 use mathlib.Core.List.{List}
 use Prim.Native.Nat.{ℕ, ◌+◌, ◌*◌, ◌-◌, ◌/◌, ◌≤◌, ◌<◌}
@@ -81,24 +81,23 @@ module _ (n : ℕ) (xs : List ℕ) (h : ℕ) where
     pub two_keys : (get_or xs (2 * n + 2 * h) 0 ≡ get_or xs (2 * n + 2 * h + 2) 0 → ⊥) → United n (h + 1) xs xs
     two_keys d = unchanged (λ x y r e. d (sym own_key ∙ ap (key_at n xs) (sym e) ∙ r.same ∙ ap (λ (i : ℕ). key_at n xs (i + 1)) e ∙ next_key))
 
-    pub one_key : (a b : ℕ) (p : List ℕ) → 2 * n ≤ length xs → Joined (groups_of n xs) p a b → (get_or xs (2 * n + 2 * h) 0 ≡ 0 → ⊥)
-        → get_or xs (2 * n + 2 * h) 0 ≡ get_or xs (2 * n + 2 * h + 2) 0 → a ≡ get_or xs (2 * n + 2 * h + 1) 0 / 4 → b ≡ get_or xs (2 * n + 2 * h + 3) 0 / 4
-        → United n (h + 1) xs (put_mid n (2 * n - n) xs p)
-    one_key a b p room j z e ea eb =
+    pub one_key : (p : List ℕ) → 2 * n ≤ length xs → Joined (groups_of n xs) p (get_or xs (2 * n + 2 * h + 1) 0 / 4) (get_or xs (2 * n + 2 * h + 3) 0 / 4)
+        → (get_or xs (2 * n + 2 * h) 0 ≡ 0 → ⊥) → get_or xs (2 * n + 2 * h) 0 ≡ get_or xs (2 * n + 2 * h + 2) 0 → United n (h + 1) xs (put_mid n (2 * n - n) xs p)
+    one_key p room j z e =
         let len : length p ≡ n = j.len ∙ groups_length n xs room in
         record {
           kept = returned_kept n xs p room len;
           classes = rw (returned_groups n xs p room len) (classes_more c j (λ x y r. wider r)
-              (record { i = h; small = omega arith; proper = λ w. z (sym own_key ∙ w); same = own_key ∙ e ∙ sym next_key; left = ea; right = right })
+              (record { i = h; small = omega arith; proper = λ w. z (sym own_key ∙ w); same = own_key ∙ e ∙ sym next_key; left = refl; right = right })
               (λ x y r. met x y r (which r (ℕ_discrete r.i h))));
         }
       where
-        right : b ≡ number_at n xs (h + 1) / 4
-        right = eb ∙ ap (λ (w : ℕ). w / 4) (sym next_number)
+        right : get_or xs (2 * n + 2 * h + 3) 0 / 4 ≡ number_at n xs (h + 1) / 4
+        right = ap (λ (w : ℕ). w / 4) (sym next_number)
 
-        met : (x y : ℕ) (r : Adjacent n xs (h + 1) x y) → Adjacent n xs h x y ⊎ (r.i ≡ h) → Adjacent n xs h x y ⊎ ((x ≡ a) × (y ≡ b))
+        met : (x y : ℕ) (r : Adjacent n xs (h + 1) x y) → Adjacent n xs h x y ⊎ (r.i ≡ h) → Adjacent n xs h x y ⊎ ((x ≡ get_or xs (2 * n + 2 * h + 1) 0 / 4) × (y ≡ get_or xs (2 * n + 2 * h + 3) 0 / 4))
         met x y r (inl w) = inl w
-        met x y r (inr f) = inr (r.left ∙ ap (λ (i : ℕ). number_at n xs i / 4) f ∙ sym ea, r.right ∙ ap (λ (i : ℕ). number_at n xs (i + 1) / 4) f ∙ sym right)
+        met x y r (inr f) = inr (r.left ∙ ap (λ (i : ℕ). number_at n xs i / 4) f, r.right ∙ ap (λ (i : ℕ). number_at n xs (i + 1) / 4) f ∙ sym right)
 
 -- ---- all of them
 

@@ -82,17 +82,17 @@ climbed_low {p} {q} {x} {at} {up} c h =
     let uq : up < length q = omega arith in
     (c.refines.low up uq, uq, aq)
 
-pub climbed_next : {p q : List ℕ} {x at up : ℕ} (at' up' : ℕ) → Climbed p q x at up → x < length p → at' ≡ get_or q up 0 → up' ≡ get_or (set q at (get_or q up 0)) at' 0 → Climbed p (set q at (get_or q up 0)) x at' up'
-climbed_next {p} {q} {x} {at} {up} at' up' c h e e' =
+pub climbed_next : {p q : List ℕ} {x at up : ℕ} → Climbed p q x at up → x < length p → let g : ℕ = get_or q up 0 in Climbed p (set q at g) x g (get_or (set q at g) g 0)
+climbed_next {p} {q} {x} {at} {up} c h =
     let low = climbed_low c h in
     let half : Refines q (set q at (get_or q up 0)) = rw c.is_up (halve q at c.refines.low low.2) in
     let all : Refines p (set q at (get_or q up 0)) = refines_trans c.refines half in
     record {
       refines = all;
-      above = joined c.above (lift c.refines (on (on same (low.2, c.is_up)) (low.1, e)));
+      above = joined c.above (lift c.refines (on (on same (low.2, c.is_up)) (low.1, refl)));
       le = omega (arith, c.le, c.up_le, low.0);
-      is_up = e';
-      up_le = rw e' (all.low at' (simp length-set (omega (arith, low.0, low.1))));
+      is_up = refl;
+      up_le = all.low (get_or q up 0) (simp length-set (omega (arith, low.0, low.1)));
     }
 
 respected : (p : List ℕ) {x y : ℕ} (f : ℕ → ℕ) → Respects p f → Linked (Ptr p) x y → f x ≡ f y

@@ -2,13 +2,10 @@
 use mathlib.Core.Path.{◌≡◌, ap}
 use mathlib.Core.List.{List}
 use Prim.Native.Nat.{ℕ, zero, suc, ◌+◌, ◌*◌, ◌/◌, ◌%◌, ◌≤◌, ◌<◌}
-use native.Mathlib.Nat.{mul-zero, mul-add, mul-one, mul-le-mul_left, lt_of_mul-lt-mul_left, zero-mul, div-add-mod, mod-lt, mod-eq_of_lt, mod_self, mod-mod}
+use native.Mathlib.Nat.{mul-add, mul-one, mul-le-mul_left, lt_of_mul-lt-mul_left, zero-mul, div-add-mod, mod-lt, mod-eq_of_lt, mod_self, mod-mod}
 use native.Mathlib.Decide.{dec_lt}
 use native.Mathlib.Omega.{arith}
 use Rattle.cells.specs.Cells.{cell}
-
-pub first_place : (size : ℕ) → size * 0 + 0 ≡ 0
-first_place size = omega (arith, mul-zero size)
 
 -- a cell more is size sides more
 pub cell_after : (size q : ℕ) → size * (q + 1) ≡ size * q + size

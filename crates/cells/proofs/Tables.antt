@@ -3,7 +3,6 @@ use mathlib.Core.Path.{◌≡◌, ap, ◌∙◌}
 use mathlib.Core.Bool.{cond}
 use mathlib.Core.List.{List}
 use Prim.Native.Nat.{ℕ, ◌+◌, ◌*◌, ◌≤◌, ◌<◌}
-use native.Mathlib.Nat.{mul-le-mul_left}
 use native.Mathlib.Decide.{ℕ_discrete}
 use native.Mathlib.Omega.{arith}
 use lib.Dec.{eqb}
@@ -65,9 +64,3 @@ module _ (size : ℕ) (cells : List ℕ) (n : ℕ) (xs ys : List ℕ) (q i key n
       go : (p j : ℕ) → j < size → p < n → size * p + j < t → Dec (size * p + j ≡ size * q + i) → Stands size cells n xs longer (size * p + j) p j
       go p j hj hp l (yes e) = let w = own_place size p j q i hj hi e in new p j w.0 w.1
       go p j hj hp l (no ne) = old p j ne (T.stands p j hj hp (omega (arith, ne)))
-
--- what holds of more holds of all the sides
-pub tabled_all : {size : ℕ} {cells : List ℕ} {n : ℕ} {xs ys : List ℕ} (q i : ℕ) → Tabled size cells n xs ys (size * q + i) → n ≤ q → Tabled size cells n xs ys (size * n)
-tabled_all {size} {cells} {n} {xs} {ys} q i T h =
-    let up : size * n ≤ size * q = mul-le-mul_left size h in
-    record { kept = T.kept; stands = λ p j hj hp l. T.stands p j hj hp (omega arith) }

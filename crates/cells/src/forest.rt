@@ -1,10 +1,9 @@
 // Classes of numbers by union-find in a lent list: each number points at itself or lower, and all of a class have one root.
-// A caller may rely on the classes alone; which number of its class one points at, before `flatten`, is left open.
+// A caller may rely on the classes alone; which number of its class one points at, before `flatten`, is left open. The list stays a slice:
+// the workspace lends it anew for each pair of cells, so that a struct would have to be made, and `Low` to be shown of it, each time.
 ghost use Rattle.std.specs.Prelude.{◌≤◌, ◌<◌, length};
 ghost use Rattle.cells.specs.inner.Forest.{Low, Found, Joined, Alone, Flat};
 ghost use Rattle.cells.specs.inner.Table.{most_cells};
-
-use words::inner::wide;
 
 // The root above x. Each number passed is made to point past its parent, so that chains stay short.
 fn find(p: &mut [u32], x: usize) -> usize
@@ -13,12 +12,12 @@ fn find(p: &mut [u32], x: usize) -> usize
     ensures { Found p.old p.new x result }
 {
     let mut at = x;
-    let mut up = wide(p[at]);
+    let mut up = p[at] as usize;
     'climb: while up != at {
         let g = p[up];
         p[at] = g;
-        at = wide(g);
-        up = wide(p[at]);
+        at = g as usize;
+        up = p[at] as usize;
     }
     at
 }
@@ -44,10 +43,8 @@ pub(crate) fn alone(p: &mut [u32])
     requires { length p.old ≤ most_cells }
     ensures { Alone (length p.old) (length p.old) p.new }
 {
-    let mut i = 0;
-    'numbers: while i < p.len() {
-        p[i] = i as u32;
-        i += 1;
+    for (i, x) in p.iter_mut().enumerate() {
+        *x = i as u32;
     }
 }
 
@@ -56,10 +53,8 @@ pub(crate) fn flatten(p: &mut [u32])
     requires { Low p.old }
     ensures { Flat p.old (length p.old) p.new }
 {
-    let mut j = 0;
-    'numbers: while j < p.len() {
-        let up = wide(p[j]);
+    for j in 0..p.len() {
+        let up = p[j] as usize;
         p[j] = p[up];
-        j += 1;
     }
 }

@@ -3,7 +3,7 @@ ghost use Rattle.std.specs.Prelude.{◌≤◌, length};
 ghost use Rattle.cells.specs.inner.Table.{groups_end, Sound};
 ghost use Rattle.cells.specs.inner.Sides.{Grouped};
 
-use crate::sides;
+use crate::sides::{self, Cells};
 
 // Each of n cells of `size` corners is given its group: of those whose mark is 0, at the workspace's front, all that are linked across
 // shared sides, named by the lowest; a marked cell is a group of its own. The ordered table of the sides stays in the workspace. The rows
@@ -13,6 +13,11 @@ pub fn groups(cells: &[u32], size: usize, n: usize, work: &mut [u32])
     requires n_in_bounds { groups_end size n ≤ length work.old }
     ensures { Grouped size cells.now n work.old work.new }
 {
-    sides::list_sides(cells, size, n, work);
+    let cells = Cells {
+        corners: cells,
+        size,
+        count: n,
+    };
+    cells.list_sides(work);
     sides::unite(work, n, size * n);
 }

@@ -1,13 +1,15 @@
 -- Laws of regions: a store in one keeps what is outside it and may be the next that it is to hold, and a part of a list that is lent has
 -- its words and, when it has come back, changes that part alone, all zero if it came back so. Assumes nothing.
 use mathlib.Core.Path.{◌≡◌, refl, sym, ap, subst, ◌∙◌}
-use mathlib.Core.List.{List, ◌++◌}
+use mathlib.Core.List.{List}
 use Prim.Native.Nat.{ℕ, ◌+◌, ◌-◌, ◌≤◌, ◌<◌}
 use native.Mathlib.Decide.{ℕ_discrete, dec_lt}
 use native.Mathlib.Omega.{arith}
-use lib.ListN.{length, get_or, set, take, drop, replicate, length-set, length-replicate, get_or-replicate, get_or-append}
-use lib.Seq.{get_or-set_same, get_or-set_other, get_or-take, get_or-drop, get_or-append-add, length-take-le}
+use lib.ListN.{length, get_or, set, replicate, length-set, length-replicate, get_or-replicate}
+use lib.Seq.{get_or-set_same, get_or-set_other}
+use borrow.Author.Rules.{rules}
 use borrow.Rule.Slice.PartMut.{mid_of, put_mid, mid_len, same_len_mid}
+use Rattle.std.proofs.lemmas.List.{places}
 use Rattle.words.specs.inner.Regions.{Outside, Kept, Filled}
 
 -- ---- stores
@@ -69,31 +71,19 @@ kept_past q k h = q.rest k (λ j l e. omega arith)
 -- ---- a part from a up to e that is lent
 
 pub part_at : (xs : List ℕ) (a e k : ℕ) → k < e - a → get_or (mid_of a (e - a) xs) k 0 ≡ get_or xs (a + k) 0
-part_at xs a e k h = get_or-take (e - a) (drop a xs) k 0 h ∙ get_or-drop a xs k 0
+part_at xs a e k h = search (rules, places)
 
 -- and has come back as ys
 
 module _ (xs ys : List ℕ) (a e : ℕ) (ae : a ≤ e) (el : e ≤ length xs) (same : length ys ≡ e - a) where
-  front : length (take a xs) ≡ a
-  front = length-take-le a xs (omega arith)
-
-  past : (k : ℕ) → get_or (put_mid a (e - a) xs ys) (a + k) 0 ≡ get_or (ys ++ drop (e - a) (drop a xs)) k 0
-  past k = ap (λ (n : ℕ). get_or (put_mid a (e - a) xs ys) (n + k) 0) (sym front) ∙ get_or-append-add (take a xs) (ys ++ drop (e - a) (drop a xs)) k 0
-
   pub part_before : (k : ℕ) → k < a → get_or (put_mid a (e - a) xs ys) k 0 ≡ get_or xs k 0
-  part_before k h = get_or-append (take a xs) (ys ++ drop (e - a) (drop a xs)) 0 k (omega (arith, front)) ∙ get_or-take a xs k 0 h
+  part_before k h = search (rules, places)
 
   pub part_in : (k : ℕ) → k < e - a → get_or (put_mid a (e - a) xs ys) (a + k) 0 ≡ get_or ys k 0
-  part_in k h = past k ∙ get_or-append ys (drop (e - a) (drop a xs)) 0 k (omega arith)
+  part_in k h = search (rules, places)
 
   pub part_after : (k : ℕ) → e ≤ k → get_or (put_mid a (e - a) xs ys) k 0 ≡ get_or xs k 0
-  part_after k h =
-      let j : ℕ = k - e in
-      let split : k ≡ a + (length ys + j) = omega arith in
-      ap (λ (n : ℕ). get_or (put_mid a (e - a) xs ys) n 0) split ∙ past (length ys + j)
-      ∙ get_or-append-add ys (drop (e - a) (drop a xs)) j 0
-      ∙ get_or-drop (e - a) (drop a xs) j 0 ∙ get_or-drop a xs ((e - a) + j) 0
-      ∙ ap (λ (n : ℕ). get_or xs n 0) (omega arith)
+  part_after k h = search (rules, places)
 
   pub part_len : length (put_mid a (e - a) xs ys) ≡ length xs
   part_len = same_len_mid a (e - a) xs ys (same ∙ sym (mid_len a e xs el))

@@ -16,22 +16,18 @@ pub fn wide(word: u32) -> usize
 pub fn lesser(x: u32, y: u32) -> u32
     ensures { result ≡ min x y }
 {
-    if x < y { x } else { y }
+    x.min(y)
 }
 
 pub fn greater(x: u32, y: u32) -> u32
     ensures { result ≡ max x y }
 {
-    if x < y { y } else { x }
+    x.max(y)
 }
 
 // Every word is 0, and there are as many as before.
 pub fn fill_zero(work: &mut [u32])
     ensures { work.new ≡ replicate (length work.old) 0 }
 {
-    let mut i = 0;
-    while i < work.len() {
-        work[i] = 0;
-        i += 1;
-    }
+    work.fill(0);
 }

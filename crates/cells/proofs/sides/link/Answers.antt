@@ -6,18 +6,17 @@ use Rattle.cells.proofs.Adjacent.{still_ready, still_classes, united_none, unite
 use Rattle.cells.proofs.sides.link.Goals as goal
 
 pub loop-h-init : goal.loop-h-init
-loop-h-init c = (omega arith, united_none c.requires.classes)
+loop-h-init c = united_none c.requires.classes
 
 pub link_at-requires : goal.link_at-requires
 link_at-requires c =
-    let u = c.loop-h.invariant.1 in
+    let u = c.loop-h.invariant in
     record { ready = still_ready u.kept c.requires.ready (omega arith); classes = still_classes u.kept u.classes }
 
 pub loop-h-preserved : goal.loop-h-preserved
-loop-h-preserved c = (omega arith, united_then c.loop-h.invariant.1 c.link_at.ensures)
+loop-h-preserved c = united_then c.loop-h.invariant c.link_at.ensures
 
 pub returns : goal.returns
 returns c =
-    let l = c.loop-h in
-    let e : l.h ≡ c.args.m - 1 = omega arith in
-    rw (← e) l.invariant.1
+    let e : c.loop-h.h ≡ c.args.m - 1 = omega arith in
+    rw (← e) c.loop-h.invariant

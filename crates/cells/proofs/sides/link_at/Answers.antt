@@ -1,6 +1,5 @@
 -- `link_at`: by its two tests, and the words that it reads are those of records h and h + 1.
-use mathlib.Core.Path.{ap}
-use Prim.Native.Nat.{ℕ, ◌+◌, ◌/◌}
+use Prim.Native.Nat.{◌+◌}
 use native.Mathlib.Omega.{arith}
 use Rattle.cells.proofs.Part.{groups_length}
 use Rattle.cells.proofs.Adjacent.{next_number, no_side, two_keys, one_key}
@@ -15,7 +14,7 @@ returns-then-work-at c = two_keys _ _ _ c.requires.classes c.if-work-at.true
 pub join-requires : goal.join-requires
 join-requires c =
     let len = groups_length c.args.n c.args.work.now (omega arith) in
-    record { low = c.requires.classes.low; a_in_bounds = (rw (len, c.wide-a.ensures) (c.requires.ready.within c.args.h (omega arith)), rw (len, c.wide-b.ensures, ← next_number c.args.n c.args.work.now c.args.h) (c.requires.ready.within (c.args.h + 1) (omega arith))); p_len_bound = omega arith }
+    record { low = c.requires.classes.low; a_in_bounds = (rw len (c.requires.ready.within c.args.h (omega arith)), rw (len, ← next_number c.args.n c.args.work.now c.args.h) (c.requires.ready.within (c.args.h + 1) (omega arith))); p_len_bound = omega arith }
 
 pub returns : goal.returns
-returns c = one_key _ _ _ c.requires.classes _ _ _ (omega arith) c.join.ensures c.if-work-at-eq0.false c.if-work-at.false (ap (λ (w : ℕ). w / 4) c.wide-a.ensures) (ap (λ (w : ℕ). w / 4) c.wide-b.ensures)
+returns c = one_key _ _ _ c.requires.classes _ (omega arith) c.join.ensures c.if-work-at-eq0.false c.if-work-at.false
