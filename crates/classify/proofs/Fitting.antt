@@ -13,14 +13,12 @@ use Rattle.measure.specs.Float.{bits}
 use Rattle.measure.proofs.Compared.{lt_once, lt_through}
 use Rattle.measure.proofs.DistanceBounds.{FromZero, distance_from_zero}
 use Rattle.axis.specs.declared.AxisCache.{AxisCache}
-use Rattle.classify.specs.declared.Match.{Match}
-use Rattle.classify.specs.declared.Match.TheVariants.{Missing, Found}
+use Rattle.classify.specs.declared.Near.{Near}
 use Rattle.classify.specs.declared.Side.{Side}
-use Rattle.classify.specs.declared.Judged.{Judged}
-use Rattle.classify.specs.declared.Judged.TheVariants.{Grid, Spurious}
+use Rattle.classify.specs.declared.GridSide.{GridSide}
 use Rattle.classify.specs.declared.Class.{Class}
 use Rattle.classify.specs.declared.Class.TheVariants as class
-use Rattle.classify.specs.Match.{offered, nearer, match_of, side_of, slot_in, distance_in, is_below, no_fit, greater_of, judged_by, judged_of, class_by}
+use Rattle.classify.specs.Match.{offered, found, nearer, match_of, side_of, distance_in, is_below, no_fit, greater_of, grid_side, judged_by, judged_of, class_by}
 use Rattle.classify.specs.Classes.{Input, axes_at, side_at, judged_at, class_at}
 use Rattle.classify.specs.Fits.{fit_of, fit_at}
 
@@ -35,7 +33,7 @@ nearer_from_zero : (a b : Option Float) → FromZero a → FromZero b → FromZe
 unfolding nearer
 nearer_from_zero (Some d0) (Some d1) p q = go (lt d1 d0)
   where
-    go : (t : Bool) → FromZero (distance_in (cond t (Found 1 d1) (Found 0 d0)))
+    go : (t : Bool) → FromZero (distance_in (cond t (found 1 d1) (found 0 d0)))
     go true = q
     go false = p
 nearer_from_zero (Some d0) None p q = p
@@ -90,26 +88,27 @@ module _ (tolerance : Float) (side : Side) (d0 d1 : Float) (at_start : distance_
       go true e = record { at_an_end = inr at_end; greatest = above_none d1 (lt_once d0 d1 z0.0 z1.0 e) (lt_self d1 z1.0); from_zero = z1.1; below = below1 }
       go false e = record { at_an_end = inl at_start; greatest = above_none d0 (lt_self d0 z0.0) e; from_zero = z0.1; below = below0 }
 
-is_grid : Judged → Bool
-is_grid (Grid s0 s1 fit) = true
-is_grid Spurious = false
+is_grid : Option GridSide → Bool
+is_grid (Some own) = true
+is_grid None = false
 
-no_end : (slot : ℕ) (d tolerance : Float) → is_grid (judged_by tolerance (Found slot d) Missing) ≡ false
+no_end : (near : Near) (tolerance : Float) → is_grid (judged_by tolerance (Some near) None) ≡ false
 unfolding judged_by is_below is_grid
-no_end slot d tolerance = ap (λ (b : Bool). is_grid (cond b (Grid slot 0 (greater_of (Some d) None)) Spurious)) (and-false (lt d tolerance))
+no_end near tolerance = ap (λ (b : Bool). is_grid (cond b (Some (grid_side (Some near) None)) None)) (and-false (lt near.distance tolerance))
 
 -- a side that is judged Grid has both distances, each below the tolerance
-grid_fits : (tolerance : Float) (side : Side) (start end : Match) → side.start ≡ start → side.end ≡ end → FromZero (distance_in start) → FromZero (distance_in end) → is_grid (judged_by tolerance start end) ≡ true
+grid_fits : (tolerance : Float) (side : Side) (start end : Option Near) → side.start ≡ start → side.end ≡ end → FromZero (distance_in start) → FromZero (distance_in end) → is_grid (judged_by tolerance start end) ≡ true
     → Fitting tolerance side (greater_of (distance_in start) (distance_in end))
 unfolding judged_by is_below is_grid
-grid_fits tolerance side (Found s0 d0) (Found s1 d1) p q z0 z1 g = go (lt d0 tolerance) refl (lt d1 tolerance) refl g
+grid_fits tolerance side (Some a) (Some b) p q z0 z1 g = go (lt a.distance tolerance) refl (lt b.distance tolerance) refl g
   where
-    go : (a : Bool) → lt d0 tolerance ≡ a → (b : Bool) → lt d1 tolerance ≡ b → is_grid (cond (a && b) (Grid s0 s1 (greater_of (Some d0) (Some d1))) Spurious) ≡ true → Fitting tolerance side (greater_of (Some d0) (Some d1))
-    go true e true f h = greater_fits tolerance side d0 d1 (ap distance_in p) (ap distance_in q) z0 z1 e f
+    go : (s : Bool) → lt a.distance tolerance ≡ s → (t : Bool) → lt b.distance tolerance ≡ t → is_grid (cond (s && t) (Some (grid_side (Some a) (Some b))) None) ≡ true
+        → Fitting tolerance side (greater_of (Some a.distance) (Some b.distance))
+    go true e true f h = greater_fits tolerance side a.distance b.distance (ap distance_in p) (ap distance_in q) z0 z1 e f
     go true e false f h = absurd (false≢true h)
-    go false e b f h = absurd (false≢true h)
-grid_fits tolerance side (Found s0 d0) Missing p q z0 z1 g = absurd (false≢true (sym (no_end s0 d0 tolerance) ∙ g))
-grid_fits tolerance side Missing end p q z0 z1 g = absurd (false≢true g)
+    go false e t f h = absurd (false≢true h)
+grid_fits tolerance side (Some a) None p q z0 z1 g = absurd (false≢true (sym (no_end a tolerance) ∙ g))
+grid_fits tolerance side None end p q z0 z1 g = absurd (false≢true g)
 
 -- ---- by another tolerance
 
@@ -142,16 +141,16 @@ both_below d0 d1 t f0 f1 = go (lt d0 d1) refl
     go true e = second (lt d0 t) (lt d1 t) (not_below_lem d1 d0 t f1 f0 (lt_once d0 d1 f0 f1 e))
     go false e = first (lt d0 t) (lt d1 t) (not_below_lem d0 d1 t f0 f1 e)
 
-another_grid : (tolerance t : Float) (start end : Match) → FromZero (distance_in start) → FromZero (distance_in end) → is_grid (judged_by tolerance start end) ≡ true
+another_grid : (tolerance t : Float) (start end : Option Near) → FromZero (distance_in start) → FromZero (distance_in end) → is_grid (judged_by tolerance start end) ≡ true
     → is_grid (judged_by t start end) ≡ lt (greater_of (distance_in start) (distance_in end)) t
 unfolding judged_by is_below is_grid
-another_grid tolerance t (Found s0 d0) (Found s1 d1) z0 z1 g = go (lt d0 t && lt d1 t) ∙ both_below d0 d1 t z0.0 z1.0
+another_grid tolerance t (Some a) (Some b) z0 z1 g = go (lt a.distance t && lt b.distance t) ∙ both_below a.distance b.distance t z0.0 z1.0
   where
-    go : (b : Bool) → is_grid (cond b (Grid s0 s1 (greater_of (Some d0) (Some d1))) Spurious) ≡ b
+    go : (s : Bool) → is_grid (cond s (Some (grid_side (Some a) (Some b))) None) ≡ s
     go true = refl
     go false = refl
-another_grid tolerance t (Found s0 d0) Missing z0 z1 g = absurd (false≢true (sym (no_end s0 d0 tolerance) ∙ g))
-another_grid tolerance t Missing end z0 z1 g = absurd (false≢true g)
+another_grid tolerance t (Some a) None z0 z1 g = absurd (false≢true (sym (no_end a tolerance) ∙ g))
+another_grid tolerance t None end z0 z1 g = absurd (false≢true g)
 
 -- ---- a half-edge of the lists
 
@@ -161,16 +160,16 @@ grid_of class.Diagonal = false
 grid_of class.Spurious = false
 
 -- a half-edge is Grid exactly where its own judgement is
-same_grid : (own next last : Judged) → grid_of (class_by own next last) ≡ is_grid own
+same_grid : (own next last : Option GridSide) → grid_of (class_by own next last) ≡ is_grid own
 unfolding class_by grid_of is_grid
-same_grid (Grid s0 s1 fit) next last = refl
-same_grid Spurious (Grid n0 n1 nfit) (Grid l0 l1 lfit) = go (not (eqb n1 l0))
+same_grid (Some own) next last = refl
+same_grid None (Some next) (Some last) = go (not (eqb next.end last.start))
   where
     go : (t : Bool) → grid_of (cond t class.Diagonal class.Spurious) ≡ false
     go true = refl
     go false = refl
-same_grid Spurious (Grid n0 n1 nfit) Spurious = refl
-same_grid Spurious Spurious last = refl
+same_grid None (Some next) None = refl
+same_grid None None last = refl
 
 grid_class : (c : Class) → grid_of c ≡ true → c ≡ class.Grid
 unfolding grid_of
@@ -178,21 +177,21 @@ grid_class class.Grid h = refl
 grid_class class.Diagonal h = absurd (false≢true h)
 grid_class class.Spurious h = absurd (false≢true h)
 
-fit_grid : (tolerance : Float) (start end : Match) → is_grid (judged_by tolerance start end) ≡ true → fit_of (judged_by tolerance start end) ≡ greater_of (distance_in start) (distance_in end)
+fit_grid : (tolerance : Float) (start end : Option Near) → is_grid (judged_by tolerance start end) ≡ true → fit_of (judged_by tolerance start end) ≡ greater_of (distance_in start) (distance_in end)
 unfolding judged_by is_grid fit_of
 fit_grid tolerance start end h = go (is_below tolerance (distance_in start) && is_below tolerance (distance_in end)) h
   where
-    judged_if : Bool → Judged
-    judged_if b = cond b (Grid (slot_in start) (slot_in end) (greater_of (distance_in start) (distance_in end))) Spurious
+    judged_if : Bool → Option GridSide
+    judged_if b = cond b (Some (grid_side start end)) None
 
     go : (b : Bool) → is_grid (judged_if b) ≡ true → fit_of (judged_if b) ≡ greater_of (distance_in start) (distance_in end)
     go true h = refl
     go false h = absurd (false≢true h)
 
-fit_spurious : (own : Judged) → is_grid own ≡ false → fit_of own ≡ no_fit
+fit_spurious : (own : Option GridSide) → is_grid own ≡ false → fit_of own ≡ no_fit
 unfolding fit_of is_grid
-fit_spurious (Grid s0 s1 fit) h = absurd (false≢true (sym h))
-fit_spurious Spurious h = refl
+fit_spurious (Some own) h = absurd (false≢true (sym h))
+fit_spurious None h = refl
 
 below_zero : le (bits 0) no_fit ≡ false
 unfolding le lt eq of_bits

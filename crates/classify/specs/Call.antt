@@ -6,7 +6,10 @@ use Rattle.std.specs.Prelude.{Ok, Err}
 use Rattle.refusal.specs.InNumbers.{InNumbers, gives, refuses}
 use Rattle.refusal.specs.Rows.{Gate, ◌then◌}
 use Rattle.measure.specs.Parameter.{parameter_row}
+use Rattle.std.specs.Borrow.{Bor}
+use Rattle.axis.specs.declared.Axes.{Axes}
 use Rattle.axis.specs.Cache.{rule_row}
+use Rattle.mesh.specs.declared.Positions.{Positions}
 use Rattle.mesh.specs.Lists.{paired_row, doubled_row, whole_row, limit_row, most_corners, most_half_edges}
 use Rattle.mesh.specs.Positions.{positions_row}
 use Rattle.mesh.specs.Cells.{corners_row, twice_row}
@@ -19,6 +22,11 @@ unfoldable pub lengths_gate : (x y angles marks spreads triangles classes : ℕ)
 lengths_gate x y angles marks spreads triangles classes =
     paired_row y x then doubled_row angles x then doubled_row marks x then doubled_row spreads x then whole_row triangles 3 then paired_row classes triangles
     then limit_row x most_corners then limit_row triangles most_half_edges
+
+-- of lists that are lent, beside one of that length
+abbrev pub lengths_given : Positions → Axes → Bor (List ℕ) → ℕ → Gate
+lengths_given corners axes triangles paired =
+    lengths_gate (length corners.x.now) (length corners.y.now) (length axes.angles.now) (length axes.marks.now) (length axes.spreads.now) (length triangles.now) paired
 
 -- rows 3, 18 and 4 to 6 look at the parameters and at what the lists hold
 unfoldable pub values_gate : List Float → List Float → List ℕ → EdgeParams → Gate

@@ -1,16 +1,18 @@
 -- Document 01, "Classes", over the lists of a frame: each half-edge is judged for itself.
-use Rattle.std.specs.Prelude.{List, ℕ, Float, length, get_or}
+use Rattle.std.specs.Prelude.{Option, List, ℕ, Float, length, get_or}
 use Rattle.std.specs.Float.Ieee as Ieee
 use Rattle.std.specs.Float.{nan, binary32}
 use Rattle.std.specs.Borrow.{Bor}
 use Rattle.words.specs.Listing.{listing}
 use Rattle.measure.specs.Angle.{angle_rule}
+use Rattle.axis.specs.declared.Axes.{Axes}
 use Rattle.axis.specs.declared.AxisCache.{AxisCache}
 use Rattle.axis.specs.Cache.{cache_at}
+use Rattle.mesh.specs.declared.Positions.{Positions}
 use Rattle.mesh.specs.HalfEdge.{next_of, start_of, end_of}
 use Rattle.classify.specs.declared.EdgeParams.{EdgeParams}
 use Rattle.classify.specs.declared.Side.{Side}
-use Rattle.classify.specs.declared.Judged.{Judged}
+use Rattle.classify.specs.declared.GridSide.{GridSide}
 use Rattle.classify.specs.declared.Class.{Class}
 use Rattle.classify.specs.Match.{side_of, judged_of, class_by, class_number}
 
@@ -25,9 +27,16 @@ pub record Input : Type 0 where
   pub params : EdgeParams
 
 -- what lent lists hold, in the order in which the call takes them
-abbrev pub given : (x y angles : Bor (List Float)) (marks : Bor (List ℕ)) (spreads : Bor (List Float)) (triangles : Bor (List ℕ)) → EdgeParams → Input
-given x y angles marks spreads triangles params =
-    record { xs = x.now; ys = y.now; angles = angles.now; marks = marks.now; spreads = spreads.now; triangles = triangles.now; params = params }
+abbrev pub given : Positions → Axes → Bor (List ℕ) → EdgeParams → Input
+given corners axes triangles params = record {
+  xs = corners.x.now;
+  ys = corners.y.now;
+  angles = axes.angles.now;
+  marks = axes.marks.now;
+  spreads = axes.spreads.now;
+  triangles = triangles.now;
+  params = params;
+}
 
 -- the axes of a corner
 unfoldable pub axes_at : Input → ℕ → AxisCache
@@ -44,7 +53,7 @@ side_at i e =
     let b = end_of i.triangles e in
     side_of (axes_at i a) (axes_at i b) (angle_between i.xs i.ys a b)
 
-unfoldable pub judged_at : Input → ℕ → Judged
+unfoldable pub judged_at : Input → ℕ → Option GridSide
 judged_at i e = judged_of i.params.tolerance (side_at i e)
 
 unfoldable pub class_at : Input → ℕ → Class

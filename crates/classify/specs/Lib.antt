@@ -1,3 +1,4 @@
+pub mod Three
 pub mod Match
 pub mod Classes
 pub mod Fits

@@ -6,11 +6,9 @@ use Rattle.std.specs.Float.Ieee as Ieee
 use Rattle.measure.specs.Float.{bits}
 use Rattle.measure.specs.Distance.{distance_of}
 use Rattle.axis.specs.declared.AxisCache.{AxisCache}
-use Rattle.classify.specs.declared.Match.{Match}
-use Rattle.classify.specs.declared.Match.TheVariants.{Missing, Found}
+use Rattle.classify.specs.declared.Near.{Near}
 use Rattle.classify.specs.declared.Side.{Side}
-use Rattle.classify.specs.declared.Judged.{Judged}
-use Rattle.classify.specs.declared.Judged.TheVariants as judged
+use Rattle.classify.specs.declared.GridSide.{GridSide}
 use Rattle.classify.specs.declared.Class.{Class}
 use Rattle.classify.specs.declared.Class.TheVariants as class
 
@@ -18,28 +16,31 @@ use Rattle.classify.specs.declared.Class.TheVariants as class
 unfoldable pub offered : Bool → Float → Float → Option Float
 offered informative angle axis = cond informative (distance_of angle axis) None
 
--- the nearest of two slots, slot 0 on equal distance; a missing distance is skipped
-unfoldable pub nearer : Option Float → Option Float → Match
-nearer (Some d0) (Some d1) = cond (Ieee.lt d1 d0) (Found 1 d1) (Found 0 d0)
-nearer (Some d0) None = Found 0 d0
-nearer None (Some d1) = Found 1 d1
-nearer None None = Missing
+-- a match is a slot and a distance, or none
+abbrev pub found : ℕ → Float → Option Near
+found slot d = Some (record { slot = slot; distance = d })
 
-unfoldable pub match_of : AxisCache → Float → Match
+-- the nearest of two slots, slot 0 on equal distance; a missing distance is skipped
+unfoldable pub nearer : Option Float → Option Float → Option Near
+nearer (Some d0) (Some d1) = cond (Ieee.lt d1 d0) (found 1 d1) (found 0 d0)
+nearer (Some d0) None = found 0 d0
+nearer None (Some d1) = found 1 d1
+nearer None None = None
+
+unfoldable pub match_of : AxisCache → Float → Option Near
 match_of cache angle = nearer (offered cache.informative0 angle cache.angle0) (offered cache.informative1 angle cache.angle1)
 
 -- a half-edge by its angle and the axes of the corners it runs from and to
 unfoldable pub side_of : AxisCache → AxisCache → Float → Side
 side_of start end angle = record { start = match_of start angle; end = match_of end angle }
 
--- a match is a slot and a distance, or none
-abbrev pub slot_in : Match → ℕ
-slot_in (Found slot d) = slot
-slot_in Missing = 0
+abbrev pub slot_in : Option Near → ℕ
+slot_in (Some near) = near.slot
+slot_in None = 0
 
-abbrev pub distance_in : Match → Option Float
-distance_in (Found slot d) = Some d
-distance_in Missing = None
+abbrev pub distance_in : Option Near → Option Float
+distance_in (Some near) = Some near.distance
+distance_in None = None
 
 unfoldable pub is_below : Float → Option Float → Bool
 is_below tolerance (Some d) = Ieee.lt d tolerance
@@ -56,21 +57,23 @@ greater_of (Some start) None = no_fit
 greater_of None end = no_fit
 
 -- Grid, with the slots and the greater distance, when both ends have a distance strictly below the tolerance; a missing match at either end
--- is Spurious
-unfoldable pub judged_by : Float → Match → Match → Judged
-judged_by tolerance start end =
-    cond (is_below tolerance (distance_in start) && is_below tolerance (distance_in end)) (judged.Grid (slot_in start) (slot_in end) (greater_of (distance_in start) (distance_in end))) judged.Spurious
+-- is Spurious, as is any that is not Grid for itself
+abbrev pub grid_side : Option Near → Option Near → GridSide
+grid_side start end = record { start = slot_in start; end = slot_in end; fit = greater_of (distance_in start) (distance_in end) }
 
-unfoldable pub judged_of : Float → Side → Judged
+unfoldable pub judged_by : Float → Option Near → Option Near → Option GridSide
+judged_by tolerance start end = cond (is_below tolerance (distance_in start) && is_below tolerance (distance_in end)) (Some (grid_side start end)) None
+
+unfoldable pub judged_of : Float → Side → Option GridSide
 judged_of tolerance side = judged_by tolerance side.start side.end
 
 -- the class of a half-edge by its own judgement and those of the two after it in the triangle, which meet where the first of them ends:
 -- the third side of a triangle with exactly two Grid sides whose slots differ at their common corner is Diagonal
-unfoldable pub class_by : Judged → Judged → Judged → Class
-class_by (judged.Grid s0 s1 fit) next last = class.Grid
-class_by judged.Spurious (judged.Grid n0 n1 nfit) (judged.Grid l0 l1 lfit) = cond (not (eqb n1 l0)) class.Diagonal class.Spurious
-class_by judged.Spurious (judged.Grid n0 n1 nfit) judged.Spurious = class.Spurious
-class_by judged.Spurious judged.Spurious last = class.Spurious
+unfoldable pub class_by : Option GridSide → Option GridSide → Option GridSide → Class
+class_by (Some own) next last = class.Grid
+class_by None (Some next) (Some last) = cond (not (eqb next.end last.start)) class.Diagonal class.Spurious
+class_by None (Some next) None = class.Spurious
+class_by None None last = class.Spurious
 
 -- in a list a class is 0 Spurious, 1 Grid, 2 Diagonal
 abbrev pub class_number : Class → ℕ

@@ -3,10 +3,11 @@ ghost use Rattle.std.specs.Prelude.{◌≡◌};
 ghost use Rattle.classify.specs.Match.{offered, nearer, match_of, side_of, greater_of, judged_of, class_by, class_number};
 ghost use Rattle.classify.specs.Fits.{fit_of};
 
-use crate::{Class, Judged, Match, Side};
+use crate::{Class, GridSide, Near, Side};
 use axis::AxisCache;
 
 // The distance of an axis that counts only where it is informative.
+#[tactic(auto, unfolding(crate::specs::Match::offered))]
 fn offer(informative: bool, angle: f32, axis: f32) -> Option<f32>
     ensures { result ≡ offered informative angle axis }
 {
@@ -17,33 +18,26 @@ fn offer(informative: bool, angle: f32, axis: f32) -> Option<f32>
     }
 }
 
-// Slot 0 at d0 against slot 1.
-fn against(d0: f32, slot1: Option<f32>) -> Match
-    ensures { result ≡ nearer (Some d0) slot1 }
+#[tactic(auto, unfolding(crate::specs::Match::nearer))]
+fn nearest(slot0: Option<f32>, slot1: Option<f32>) -> Option<Near>
+    ensures { result ≡ nearer slot0 slot1 }
 {
-    let Some(d1) = slot1 else {
-        return Match::Found(0, d0);
-    };
-    if d1 < d0 {
-        Match::Found(1, d1)
-    } else {
-        Match::Found(0, d0)
+    match (slot0, slot1) {
+        (Some(d0), Some(d1)) => {
+            if d1 < d0 {
+                Some(Near { slot: 1, distance: d1 })
+            } else {
+                Some(Near { slot: 0, distance: d0 })
+            }
+        }
+        (Some(d0), None) => Some(Near { slot: 0, distance: d0 }),
+        (None, Some(d1)) => Some(Near { slot: 1, distance: d1 }),
+        (None, None) => None,
     }
 }
 
-fn nearest(slot0: Option<f32>, slot1: Option<f32>) -> Match
-    ensures { result ≡ nearer slot0 slot1 }
-{
-    let Some(d0) = slot0 else {
-        let Some(d1) = slot1 else {
-            return Match::Missing;
-        };
-        return Match::Found(1, d1);
-    };
-    against(d0, slot1)
-}
-
-fn match_at(cache: AxisCache, angle: f32) -> Match
+#[tactic(auto, unfolding(crate::specs::Match::match_of))]
+fn match_at(cache: AxisCache, angle: f32) -> Option<Near>
     ensures { result ≡ match_of cache angle }
 {
     let slot0 = offer(cache.informative0, angle, cache.angle0);
@@ -51,6 +45,7 @@ fn match_at(cache: AxisCache, angle: f32) -> Match
     nearest(slot0, slot1)
 }
 
+#[tactic(auto, unfolding(crate::specs::Match::side_of))]
 pub(crate) fn side_of(start: AxisCache, end: AxisCache, angle: f32) -> Side
     ensures { result ≡ side_of start end angle }
 {
@@ -61,6 +56,7 @@ pub(crate) fn side_of(start: AxisCache, end: AxisCache, angle: f32) -> Side
 }
 
 // The start's where neither is greater, as of 0 and -0.
+#[tactic(auto, unfolding(crate::specs::Match::greater_of))]
 fn greater(start: f32, end: f32) -> f32
     ensures { result ≡ greater_of (Some start) (Some end) }
 {
@@ -68,62 +64,51 @@ fn greater(start: f32, end: f32) -> f32
 }
 
 // A missing match at either end makes the half-edge Spurious at once.
-pub(crate) fn judge_side(side: Side, tolerance: f32) -> Judged
+#[tactic(auto, unfolding(crate::specs::Match::judged_of, crate::specs::Match::judged_by, crate::specs::Match::is_below))]
+pub(crate) fn judge_side(side: Side, tolerance: f32) -> Option<GridSide>
     ensures { result ≡ judged_of tolerance side }
 {
-    let start = side.start;
-    let Match::Found(start_slot, start_distance) = start else {
-        return Judged::Spurious;
-    };
-    let end = side.end;
-    let Match::Found(end_slot, end_distance) = end else {
-        return Judged::Spurious;
-    };
-    if start_distance < tolerance {
-        if end_distance < tolerance {
-            let fit = greater(start_distance, end_distance);
-            return Judged::Grid(start_slot, end_slot, fit);
-        }
+    let start = side.start?;
+    let end = side.end?;
+    if start.distance < tolerance && end.distance < tolerance {
+        let fit = greater(start.distance, end.distance);
+        return Some(GridSide {
+            start: start.slot,
+            end: end.slot,
+            fit,
+        });
     }
-    Judged::Spurious
+    None
 }
 
 // The class of a half-edge, from its own judgement and those of the next two in its triangle.
-pub(crate) fn class_of(own: Judged, next: Judged, last: Judged) -> Class
+#[tactic(auto, unfolding(crate::specs::Match::class_by))]
+pub(crate) fn class_of(own: Option<GridSide>, next: Option<GridSide>, last: Option<GridSide>) -> Class
     ensures { result ≡ class_by own next last }
 {
-    let Judged::Spurious = own else {
-        return Class::Grid;
-    };
-    let Judged::Grid(_, met, _) = next else {
-        return Class::Spurious;
-    };
-    let Judged::Grid(meets, _, _) = last else {
-        return Class::Spurious;
-    };
-    if met == meets {
-        Class::Spurious
-    } else {
-        Class::Diagonal
+    match (own, next, last) {
+        (Some(_), _, _) => Class::Grid,
+        (None, Some(next), Some(last)) if next.end != last.start => Class::Diagonal,
+        _ => Class::Spurious,
     }
 }
 
-pub(crate) fn class_number(class: Class) -> u32
-    ensures { result ≡ class_number class }
-{
-    match class {
-        Class::Spurious => 0,
-        Class::Grid => 1,
-        Class::Diagonal => 2,
+impl From<Class> for u32 {
+    ghost from_gives = { λ class word. word ≡ class_number class };
+
+    fn from(class: Class) -> u32 {
+        match class {
+            Class::Spurious => 0,
+            Class::Grid => 1,
+            Class::Diagonal => 2,
+        }
     }
 }
 
 // -1 where it is not Grid.
-pub(crate) fn fit_of(own: Judged) -> f32
+#[tactic(auto, unfolding(crate::specs::Fits::fit_of))]
+pub(crate) fn fit_of(own: Option<GridSide>) -> f32
     ensures { result ≡ fit_of own }
 {
-    let Judged::Grid(_, _, fit) = own else {
-        return -1.0;
-    };
-    fit
+    own.map_or(-1.0, |grid| grid.fit)
 }

@@ -27,7 +27,7 @@ use Rattle.quads.specs.Order.{corner_at, angle_key, sorted_of, turned_from, orde
 use Rattle.quads.specs.inner.Ordering.{Exist}
 use Rattle.quads.specs.Merge.{Mesh, Input, triangle_count, paired_at, made_by, quads_to, merged_of}
 use Rattle.quads.specs.inner.Merging.{Sound}
-use Rattle.quads.proofs.Seen.{only_own}
+use Rattle.quads.proofs.Side.{only_own}
 use Rattle.quads.proofs.Sorted.{corner_in_lem, sorted_at, turned_at, sorted_in}
 use Rattle.quads.proofs.Pairs.{Pair, paired, Corners, four_corners, four_exist}
 

@@ -1,4 +1,4 @@
-pub mod Seen
+pub mod Side
 pub mod Sound
 pub mod Ranked
 pub mod Sorted

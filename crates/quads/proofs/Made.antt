@@ -1,7 +1,7 @@
 -- Laws of the quads made so far: how they grow, how many they are, and the list that holds them at its front. Assumes nothing.
 use Rattle.std.specs.Prelude.{Option, Some, None}
 use mathlib.Core.Path.{◌≡◌, refl, sym, ap, ◌∙◌, subst}
-use mathlib.Core.Bool.{Bool, true, false, false≢true}
+use mathlib.Core.Bool.{Bool, true, false}
 use mathlib.Core.List.{List, [], ◌∷◌, ◌++◌, append-nil, append_assoc}
 use Prim.Native.Nat.{ℕ, zero, suc, ◌+◌, ◌-◌, ◌*◌, ◌≤◌, ◌<◌}
 use native.Mathlib.Nat.{add-zero, add-suc}
@@ -11,7 +11,10 @@ use lib.ListN.{length, get_or, take, drop, length-append, length-drop}
 use lib.Seq.{take_at, drop-append-add, drop-drop, get_or-append-add, get_or-drop}
 use Rattle.words.specs.Sorting.{one}
 use Rattle.quads.specs.declared.Quad.{Quad}
-use Rattle.quads.specs.Merge.{Mesh, Input, paired_at, made_by, quads_to}
+use Rattle.std.specs.Int.{from_bool}
+use Rattle.std.specs.Option.{is_some}
+use Rattle.quads.specs.Order.{order_of}
+use Rattle.quads.specs.Merge.{Mesh, Input, triangle_count, paired_at, made_by, quads_to, merged_of}
 use Rattle.quads.specs.inner.Merging.{is_four, count_to}
 use Rattle.quads.specs.Call.{words_of}
 
@@ -19,37 +22,22 @@ pub made_more : (i : Input) (t : ℕ) → quads_to i (t + 1) ≡ quads_to i t ++
 unfolding quads_to
 made_more i t = rw (add-one t)
 
-pub count_more : (m : Mesh) (t : ℕ) → is_four (paired_at m t) ≡ true → count_to m (t + 1) ≡ count_to m t + 1
-unfolding count_to one
-count_more m t e = rw (add-one t, e)
+pub count_more : (m : Mesh) (t : ℕ) → count_to m (t + 1) ≡ count_to m t + one (is_four (paired_at m t))
+unfolding count_to
+count_more m t = rw (add-one t)
 
--- ---- a triangle that makes none adds none
+pub one_some : (p : Option Quad) → from_bool (is_some p) ≡ one (is_four p)
+unfolding one
+one_some None = refl
+one_some (Some q) = refl
 
-none_made : (i : Input) (p : Option Quad) → is_four p ≡ false → made_by i p ≡ []
-none_made i None e = refl
-none_made i (Some q) e = absurd (false≢true (sym e))
+-- ---- what a triangle adds
 
-passed_by : (i : Input) (t d : ℕ) → ((k : ℕ) → t ≤ k → k < t + d → is_four (paired_at i.mesh k) ≡ false) → quads_to i (t + d) ≡ quads_to i t
-unfolding quads_to
-passed_by i t zero h = ap (quads_to i) (add-zero t)
-passed_by i t (suc d) h =
-    let here = none_made i (paired_at i.mesh (t + d)) (h (t + d) (omega arith) (omega arith)) in
-    rw (add-suc t d, here, append-nil) (passed_by i t d (λ k a b. h k a (omega arith)))
+pub adds : (i : Input) (t : ℕ) (q : Quad) → paired_at i.mesh t ≡ Some q → quads_to i (t + 1) ≡ quads_to i t ++ (order_of i.xs i.ys q ∷ [])
+adds i t q e = made_more i t ∙ rw e
 
-pub passed : (i : Input) (t r : ℕ) → t ≤ r → ((k : ℕ) → t ≤ k → k < r → is_four (paired_at i.mesh k) ≡ false) → quads_to i r ≡ quads_to i t
-passed i t r h f =
-    let e : t + (r - t) ≡ r = omega arith in
-    rw e at (passed_by i t (r - t) (λ k a b. f k a (omega arith)))
-
-count_passed_by : (m : Mesh) (t d : ℕ) → ((k : ℕ) → t ≤ k → k < t + d → is_four (paired_at m k) ≡ false) → count_to m (t + d) ≡ count_to m t
-unfolding count_to one
-count_passed_by m t zero h = ap (count_to m) (add-zero t)
-count_passed_by m t (suc d) h = rw (add-suc t d, h (t + d) (omega arith) (omega arith)) (add-zero _ ∙ count_passed_by m t d (λ k a b. h k a (omega arith)))
-
-pub count_passed : (m : Mesh) (t r : ℕ) → t ≤ r → ((k : ℕ) → t ≤ k → k < r → is_four (paired_at m k) ≡ false) → count_to m r ≡ count_to m t
-count_passed m t r h f =
-    let e : t + (r - t) ≡ r = omega arith in
-    rw e at (count_passed_by m t (r - t) (λ k a b. f k a (omega arith)))
+pub adds_none : (i : Input) (t : ℕ) → paired_at i.mesh t ≡ None → quads_to i (t + 1) ≡ quads_to i t
+adds_none i t e = made_more i t ∙ rw (e, append-nil)
 
 -- ---- how many they are
 
@@ -79,6 +67,13 @@ grows_by i t (suc d) = rw (add-suc t d, length-append (quads_to i (t + d)) (made
 
 pub grows : (i : Input) (t r : ℕ) → t ≤ r → length (quads_to i t) ≤ length (quads_to i r)
 grows i t r h = let e : t + (r - t) ≡ r = omega arith in rw e at (grows_by i t (r - t))
+
+-- so there is room for one more where a triangle makes it
+pub room_for : (i : Input) (t : ℕ) (q : Quad) → t < triangle_count i.mesh → paired_at i.mesh t ≡ Some q → length (quads_to i t) < length (merged_of i)
+unfolding merged_of
+room_for i t q h e =
+    let more = ap length (adds i t q e) ∙ length-append (quads_to i t) (order_of i.xs i.ys q ∷ []) in
+    omega (arith, more, grows i (t + 1) (triangle_count i.mesh) (omega arith))
 
 -- ---- their words
 
@@ -132,3 +127,28 @@ held_behind qs before now held k h =
 
 pub held_by : (qs rs : List Quad) (before now : List ℕ) → qs ≡ rs → Held rs before now → Held qs before now
 held_by qs rs before now e h = subst (λ (l : List Quad). Held l before now) (sym e) h
+
+-- ---- what the list has after the triangles below t, of which `made` quads are made
+
+pub record Front (i : Input) (before : List ℕ) (t made : ℕ) (now : List ℕ) : Type 0 where
+  pub count : made ≡ length (quads_to i t)
+  pub held : Held (quads_to i t) before now
+
+module _ (i : Input) (before now : List ℕ) {t made : ℕ} (front : Front i before t made now) where
+  pub front_kept : paired_at i.mesh t ≡ None → Front i before (t + 1) made now
+  front_kept e = record { count = front.count ∙ ap length (sym (adds_none i t e)); held = held_by _ _ before now (adds_none i t e) front.held }
+
+  pub front_more : {q r : Quad} {after : List ℕ} → paired_at i.mesh t ≡ Some q → 4 * length (merged_of i) ≤ length before → t < triangle_count i.mesh → r ≡ order_of i.xs i.ys q
+      → after ≡ take (4 * made) now ++ ((r.a ∷ r.b ∷ r.c ∷ r.d ∷ []) ++ drop (4 * made + 4) now) → Front i before (t + 1) (made + 1) after
+  front_more {q} {r} {after} e room h ordered stored =
+      let adds_r : quads_to i (t + 1) ≡ quads_to i t ++ (r ∷ []) = rw ordered (adds i t q e) in
+      let here : 4 * made ≡ 4 * length (quads_to i t) = ap (λ (n : ℕ). 4 * n) front.count in
+      let more : 4 * length (quads_to i t) ≤ length before = omega (arith, room_for i t q h e, room) in
+      record {
+        count = rw (adds_r, length-append (quads_to i t) (r ∷ []), ← front.count);
+        held = held_by _ _ before after adds_r (held_more (quads_to i t) r before now after (4 * made) here more front.held stored);
+      }
+
+  pub front_all : t ≡ triangle_count i.mesh → (made ≡ length (merged_of i)) × Held (merged_of i) before now
+  unfolding merged_of
+  front_all e = rw (← e) (front.count, front.held)

@@ -16,7 +16,7 @@ use Rattle.quads.specs.Union.{corners_of, is_in, new_to, union_of, four_from}
 use Rattle.quads.specs.inner.Ordering.{Exist}
 use Rattle.quads.specs.Merge.{Mesh, Input, paired_by, paired_across, paired_at}
 use Rattle.quads.specs.inner.Merging.{MeshSound, Sound}
-use Rattle.quads.proofs.Seen.{only_own}
+use Rattle.quads.proofs.Side.{only_own}
 
 alone_four : (q : Quad) → None ≡ Some q → ⊥
 alone_four q e = let z : ◌≡◌ {A = ℕ} 0 1 = cc in omega arith

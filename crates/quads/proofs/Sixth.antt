@@ -17,7 +17,7 @@ use Rattle.quads.specs.declared.Quad.{Quad}
 use Rattle.quads.specs.Diagonal.{only_at}
 use Rattle.quads.specs.Merge.{Mesh, Input, triangle_count, paired_at, merged_of}
 use Rattle.quads.specs.inner.Merging.{Sound, is_four, count_to}
-use Rattle.quads.proofs.Seen.{only_own}
+use Rattle.quads.proofs.Side.{only_own}
 use Rattle.quads.proofs.Pairs.{Pair, paired, other_in}
 use Rattle.quads.proofs.Made.{count_is}
 

@@ -2,8 +2,9 @@
 -- has four corners. Quads stand in order of t.
 use Rattle.std.specs.Prelude.{Option, Some, None}
 use Rattle.std.specs.Prelude.{cond, List, [], ◌∷◌, ◌++◌, ℕ, zero, suc, ◌/◌, eqb, ltb, Float, length, get_or}
-use Rattle.std.specs.Borrow.{Bor}
 use Rattle.mesh.specs.HalfEdge.{triangle_of, no_twin}
+use Rattle.mesh.specs.declared.Positions.{Positions}
+use Rattle.quads.specs.declared.Mesh as lent
 use Rattle.quads.specs.declared.Quad.{Quad}
 use Rattle.quads.specs.Diagonal.{only_at, is_at}
 use Rattle.quads.specs.Union.{union_of, four_from}
@@ -21,12 +22,12 @@ pub record Input : Type 0 where
   pub ys : List Float
   pub mesh : Mesh
 
--- what lent lists hold, in the order in which the call takes them
-abbrev pub mesh_of : (triangles twins classes : Bor (List ℕ)) → Mesh
-mesh_of triangles twins classes = record { triangles = triangles.now; twins = twins.now; classes = classes.now }
+-- what lent lists hold
+abbrev pub mesh_of : lent.Mesh → Mesh
+mesh_of mesh = record { triangles = mesh.triangles.now; twins = mesh.twins.now; classes = mesh.classes.now }
 
-abbrev pub given : (x y : Bor (List Float)) (triangles twins classes : Bor (List ℕ)) → Input
-given x y triangles twins classes = record { xs = x.now; ys = y.now; mesh = mesh_of triangles twins classes }
+abbrev pub given : Positions → lent.Mesh → Input
+given corners mesh = record { xs = corners.x.now; ys = corners.y.now; mesh = mesh_of mesh }
 
 abbrev pub triangle_count : Mesh → ℕ
 triangle_count m = length m.triangles / 3

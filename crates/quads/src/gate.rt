@@ -4,6 +4,8 @@ ghost use Rattle.mesh.specs.Lists.{most_corners, most_half_edges};
 ghost use Rattle.quads.specs.Merge.{given};
 ghost use Rattle.quads.specs.Call.{lengths_gate, values_gate, gate_of};
 
+use crate::Mesh;
+use mesh::Positions;
 use mesh::inner::cells::{classes_row, corners_row, twice_row};
 use mesh::inner::lists::{MOST_CORNERS, MOST_HALF_EDGES, limit_row, paired_row, whole_row};
 use mesh::inner::positions::positions_row;
@@ -12,46 +14,34 @@ use refusal::Refusal;
 
 // Rows 1 and 2.
 #[tactic(auto, unfolding(crate::specs::Call::lengths_gate))]
-fn lengths_gate(x: usize, y: usize, triangles: usize, twins: usize, classes: usize) -> Result<(), Refusal>
-    ensures { result ≡ lengths_gate x y triangles twins classes }
+fn lengths_gate(corners: Positions<'_>, mesh: Mesh<'_>) -> Result<(), Refusal>
+    ensures { result ≡ lengths_gate (length corners.entry.x.now) (length corners.entry.y.now) (length mesh.entry.triangles.now) (length mesh.entry.twins.now) (length mesh.entry.classes.now) }
 {
-    paired_row(y, x)?;
-    whole_row(triangles, 3)?;
-    paired_row(twins, triangles)?;
-    paired_row(classes, triangles)?;
-    limit_row(x, MOST_CORNERS)?;
-    limit_row(triangles, MOST_HALF_EDGES)
+    paired_row(corners.y.len(), corners.x.len())?;
+    whole_row(mesh.triangles.len(), 3)?;
+    paired_row(mesh.twins.len(), mesh.triangles.len())?;
+    paired_row(mesh.classes.len(), mesh.triangles.len())?;
+    limit_row(corners.x.len(), MOST_CORNERS)?;
+    limit_row(mesh.triangles.len(), MOST_HALF_EDGES)
 }
 
 // Rows 4 to 7, for lists that rows 1 and 2 let through.
 #[tactic(auto, unfolding(crate::specs::Call::values_gate))]
-fn values_gate(x: &[f32], y: &[f32], triangles: &[u32], twins: &[u32], classes: &[u32]) -> Result<(), Refusal>
-    requires { (length y.now ≡ length x.now) × (length x.now ≤ most_corners) × (length triangles.now ≤ most_half_edges) × (length triangles.now % 3 ≡ 0) × (length twins.now ≡ length triangles.now) × (length classes.now ≡ length triangles.now) }
-    ensures { result ≡ values_gate (given x.entry y.entry triangles.entry twins.entry classes.entry) }
+fn values_gate(corners: Positions<'_>, mesh: Mesh<'_>) -> Result<(), Refusal>
+    requires { (length corners.y.now ≡ length corners.x.now) × (length corners.x.now ≤ most_corners) × (length mesh.triangles.now ≤ most_half_edges) × (length mesh.triangles.now % 3 ≡ 0) × (length mesh.twins.now ≡ length mesh.triangles.now) × (length mesh.classes.now ≡ length mesh.triangles.now) }
+    ensures { result ≡ values_gate (given corners.entry mesh.entry) }
 {
-    positions_row(x, y)?;
-    corners_row(triangles, x.len())?;
-    classes_row(classes)?;
-    twice_row(triangles, 3)?;
-    twins_row(triangles, twins)
+    positions_row(corners)?;
+    corners_row(mesh.triangles, corners.x.len())?;
+    classes_row(mesh.classes)?;
+    twice_row(mesh.triangles, 3)?;
+    twins_row(mesh.triangles, mesh.twins)
 }
 
 #[tactic(auto, unfolding(crate::specs::Call::gate_of))]
-pub(crate) fn judge(
-    x: &[f32],
-    y: &[f32],
-    triangles: &[u32],
-    twins: &[u32],
-    classes: &[u32],
-) -> Result<(), Refusal>
-    ensures { result ≡ gate_of (given x.entry y.entry triangles.entry twins.entry classes.entry) }
+pub(crate) fn judge(corners: Positions<'_>, mesh: Mesh<'_>) -> Result<(), Refusal>
+    ensures { result ≡ gate_of (given corners.entry mesh.entry) }
 {
-    lengths_gate(
-        x.len(),
-        y.len(),
-        triangles.len(),
-        twins.len(),
-        classes.len(),
-    )?;
-    values_gate(x, y, triangles, twins, classes)
+    lengths_gate(corners, mesh)?;
+    values_gate(corners, mesh)
 }

@@ -6,6 +6,7 @@ ghost use Rattle.std.specs.Prelude.{◌≡◌};
 ghost use Rattle.quads.specs.Merge.{given};
 ghost use Rattle.quads.specs.Call.{Outcome, call_of};
 
+use mesh::Positions;
 use refusal::Refusal;
 
 mod diagonal;
@@ -32,23 +33,28 @@ pub struct Ranks {
     pub d: usize,
 }
 
+// The half-edges with their corners, three to a triangle, their twins and their classes.
+#[derive(Clone, Copy)]
+pub struct Mesh<'a> {
+    pub triangles: &'a [u32],
+    pub twins: &'a [u32],
+    pub classes: &'a [u32],
+}
+
 // Writes a quad, four corners, for each pair of triangles, in order of the lower one; answers how many.
 pub fn merge_triangle_pairs(
-    x: &[f32],
-    y: &[f32],
-    triangles: &[u32],
-    twins: &[u32],
-    classes: &[u32],
+    corners: Positions<'_>,
+    mesh: Mesh<'_>,
     quads: &mut [u32],
 ) -> Result<u32, Refusal>
     ensures { ◌≡◌ {A = Outcome} (record { answer = result; quads = quads.new })
-        (call_of (given x.entry y.entry triangles.entry twins.entry classes.entry) quads.old) }
+        (call_of (given corners.entry mesh.entry) quads.old) }
 {
-    gate::judge(x, y, triangles, twins, classes)?;
-    let count = inner::count_quads(triangles, twins, classes);
+    gate::judge(corners, mesh)?;
+    let count = inner::count_quads(mesh);
     if quads.len() / 4 < count {
         return Err(Refusal::RecordsShort(count as u32));
     }
-    inner::write_quads(x, y, triangles, twins, classes, quads);
+    inner::write_quads(corners, mesh, quads);
     Ok(count as u32)
 }

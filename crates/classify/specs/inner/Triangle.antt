@@ -1,13 +1,12 @@
 -- What the routines of a triangle are given, what the rows have shown; and what they answer, its three sides, their judgement, and by it
 -- the words of their classes and their fits.
-use Rattle.std.specs.Prelude.{◌≡◌, true, List, ℕ, ◌+◌, ◌*◌, ◌%◌, ◌≤◌, ◌<◌, Float, length, get_or, set}
+use Rattle.std.specs.Prelude.{◌≡◌, true, Option, List, ℕ, ◌+◌, ◌*◌, ◌%◌, ◌≤◌, ◌<◌, Float, length, get_or}
 use Rattle.std.specs.Float.{nan}
 use Rattle.measure.specs.Position.{is_position}
 use Rattle.mesh.specs.Lists.{most_corners, most_half_edges}
-use Rattle.classify.specs.declared.Sides.{Sides}
-use Rattle.classify.specs.declared.Judgement.{Judgement}
-use Rattle.classify.specs.declared.Words.{Words}
-use Rattle.classify.specs.declared.Fits.{Fits}
+use Rattle.classify.specs.declared.three.Three.{Three}
+use Rattle.classify.specs.declared.Side.{Side}
+use Rattle.classify.specs.declared.GridSide.{GridSide}
 use Rattle.classify.specs.Match.{no_fit, judged_of, class_by, class_number}
 use Rattle.classify.specs.Classes.{Input, side_at}
 use Rattle.classify.specs.Fits.{fit_of, fit_at}
@@ -25,15 +24,15 @@ pub record Sound (i : Input) : Type 0 where
   pub named : (e : ℕ) → e < length i.triangles → get_or i.triangles e 0 < length i.xs
 
 -- the three sides of triangle t
-unfoldable pub sides_at : Input → ℕ → Sides
+unfoldable pub sides_at : Input → ℕ → Three Side
 sides_at i t = record { first = side_at i (3 * t); second = side_at i (3 * t + 1); third = side_at i (3 * t + 2) }
 
 -- each of them judged for itself
-unfoldable pub judgement_of : Float → Sides → Judgement
+unfoldable pub judgement_of : Float → Three Side → Three (Option GridSide)
 judgement_of tolerance sides = record { first = judged_of tolerance sides.first; second = judged_of tolerance sides.second; third = judged_of tolerance sides.third }
 
 -- the words of a triangle's three half-edges: each by its own judgement and those of the next two
-unfoldable pub class_words : Judgement → Words
+unfoldable pub class_words : Three (Option GridSide) → Three ℕ
 class_words judged =
     let a = judged.first in
     let b = judged.second in
@@ -41,12 +40,8 @@ class_words judged =
     record { first = class_number (class_by a b c); second = class_number (class_by b c a); third = class_number (class_by c a b) }
 
 -- their fits: each by its own judgement alone
-unfoldable pub fits_by : Judgement → Fits
+unfoldable pub fits_by : Three (Option GridSide) → Three Float
 fits_by judged = record { first = fit_of judged.first; second = fit_of judged.second; third = fit_of judged.third }
-
--- stored from place e on; a list without places stays as it is
-abbrev pub fits_put : List Float → ℕ → Fits → List Float
-fits_put l e own = set (set (set l e own.first) (e + 1) own.second) (e + 2) own.third
 
 -- every place of the list holds its half-edge's fit, as is true of a list without places
 abbrev pub AllFit : Input → List Float → Type 0

@@ -1,5 +1,4 @@
--- What the routines of merging are given: what the rows have shown of an input that they let through. And what the search for the next pair
--- and the count of pairs answer.
+-- What the routines of merging are given: what the rows have shown of an input that they let through. And what the count of pairs answers.
 use Rattle.quads.specs.declared.Quad.{Quad}
 use Rattle.std.specs.Prelude.{Option, Some, None}
 use Rattle.std.specs.Prelude.{◌≡◌, Bool, true, false, ℕ, zero, suc, ◌+◌, ◌*◌, ◌%◌, ◌≤◌, ◌<◌, List, ◌++◌, length, get_or, drop}
@@ -32,13 +31,6 @@ pub record Sound (i : Input) : Type 0 where
 abbrev pub is_four : Option Quad → Bool
 is_four None = false
 is_four (Some q) = true
-
--- r is the first triangle from t on that makes a quad, or the number of triangles
-pub record NextPair (m : Mesh) (t r : ℕ) : Type 0 where
-  pub past : t ≤ r
-  pub reach : r ≤ triangle_count m
-  pub clear : (k : ℕ) → t ≤ k → k < r → is_four (paired_at m k) ≡ false
-  pub hit : r < triangle_count m → is_four (paired_at m r) ≡ true
 
 -- how many of the triangles below t make a quad
 unfoldable pub count_to : Mesh → ℕ → ℕ

@@ -1,12 +1,9 @@
--- `fit_of` is the definition of its name, judgement by judgement.
+-- `fit_of` is the definition of its name, by whether it is Grid.
 use lib.Ieee.{neg, of_bits}
+use Rattle.std.proofs.Common.{rules}
 use Rattle.classify.specs.Fits.{fit_of}
 use Rattle.classify.proofs.half_edge.fit_of.Goals as goal
 
-pub returns-in_default : goal.returns-in_default
-unfolding fit_of neg of_bits
-returns-in_default c = rw c.in_default.is
-
 pub returns : goal.returns
-unfolding fit_of
-returns c = rw c.in-Grid.is
+unfolding fit_of neg of_bits
+returns c = search rules
