@@ -17,13 +17,12 @@ ghost use Rattle.walk.specs.Input as labels;
 ghost use Rattle.frame.specs.Stages as stages;
 ghost use Rattle.abi.specs.Answers.{number_from, apart_from, cache_from, ClassesTold, classes_told, QuadsTold, quads_told, FilterTold, LabelTold, FrameTold, edges_by, filters_by, labels_by, params_by};
 
-use axis::SpreadRule;
 use axis::inner::spread_from;
+use axis::{Axes, SpreadRule};
+use frame::Frame;
+use mesh::Positions;
 use params::{edge_params, filter_params, frame_params, label_params};
-use tell::{
-    tell_cache, tell_classified, tell_distance, tell_filtered, tell_labelled, tell_merged,
-    tell_number,
-};
+use quads::Mesh;
 
 mod params;
 mod tell;
@@ -93,21 +92,21 @@ pub struct Counts {
 pub extern "C" fn ngeunsadok_root(x: f32) -> Number
     ensures { result ≡ number_from (measured_told (root_of x)) }
 {
-    tell_number(measure::root(x))
+    Number::from(measure::root(x))
 }
 
 #[unsafe(no_mangle)]
 pub extern "C" fn ngeunsadok_angle(dx: f32, dy: f32) -> Number
     ensures { result ≡ number_from (measured_told (angle_of dx dy)) }
 {
-    tell_number(measure::angle(dx, dy))
+    Number::from(measure::angle(dx, dy))
 }
 
 #[unsafe(no_mangle)]
 pub extern "C" fn ngeunsadok_distance(angle: f32, axis: f32) -> Apart
     ensures { result ≡ apart_from (distance_told (distance_of angle axis)) }
 {
-    tell_distance(measure::axis_distance(angle, axis))
+    Apart::from(measure::axis_distance(angle, axis))
 }
 
 // A mark of 0 says that the spread beside it is missing; rule is the number of the spread rule.
@@ -130,7 +129,9 @@ pub extern "C" fn ngeunsadok_axis_cache(
         number: rule,
         limit,
     };
-    tell_cache(axis::axis_cache(angle0, first, angle1, second, spread))
+    Cache::from(axis::axis_cache(
+        angle0, first, angle1, second, spread,
+    ))
 }
 
 #[unsafe(no_mangle)]
@@ -148,11 +149,20 @@ pub extern "C" fn ngeunsadok_classify_all_edges(
     fits: &mut [f32],
 ) -> Verdict
     ensures { ◌≡◌ {A = ClassesTold} (record { told = result; classes = classes.new; fits = fits.new })
-        (classes_told (edges.call_of (classing.given x.entry y.entry angles.entry marks.entry spreads.entry triangles.entry (edges_by tolerance limit rule)) classes.old fits.old)) }
+        (classes_told (edges.call_of (classing.given (record { x = x.entry; y = y.entry }) (record { angles = angles.entry; marks = marks.entry; spreads = spreads.entry }) triangles.entry (edges_by tolerance limit rule)) classes.old fits.old)) }
 {
     let params = edge_params(tolerance, limit, rule);
-    tell_classified(classify::classify_all_edges(
-        x, y, angles, marks, spreads, triangles, params, classes, fits,
+    Verdict::from(classify::classify_all_edges(
+        Positions { x, y },
+        Axes {
+            angles,
+            marks,
+            spreads,
+        },
+        triangles,
+        params,
+        classes,
+        fits,
     ))
 }
 
@@ -166,9 +176,18 @@ pub extern "C" fn ngeunsadok_merge_triangle_pairs(
     quads: &mut [u32],
 ) -> Count
     ensures { ◌≡◌ {A = QuadsTold} (record { told = result; quads = quads.new })
-        (quads_told (pairs.call_of (merge.given x.entry y.entry triangles.entry twins.entry classes.entry) quads.old)) }
+        (quads_told (pairs.call_of (merge.given (record { x = x.entry; y = y.entry }) (record { triangles = triangles.entry; twins = twins.entry; classes = classes.entry })) quads.old)) }
 {
-    tell_merged(quads::merge_triangle_pairs(x, y, triangles, twins, classes, quads))
+    let mesh = Mesh {
+        triangles,
+        twins,
+        classes,
+    };
+    Count::from(quads::merge_triangle_pairs(
+        Positions { x, y },
+        mesh,
+        quads,
+    ))
 }
 
 #[unsafe(no_mangle)]
@@ -182,10 +201,16 @@ pub extern "C" fn ngeunsadok_filter_quads(
     work: &mut [u32],
     kept: &mut [u32],
 ) -> Count
-    ensures { FilterTold (filters.given x.entry y.entry quads.entry (filters_by ratio least greatest)) work.old kept.old result work.new kept.new }
+    ensures { FilterTold (filters.given (record { x = x.entry; y = y.entry }) quads.entry (filters_by ratio least greatest)) work.old kept.old result work.new kept.new }
 {
     let params = filter_params(ratio, least, greatest);
-    tell_filtered(filter::filter_quads(x, y, quads, params, work, kept))
+    Count::from(filter::filter_quads(
+        Positions { x, y },
+        quads,
+        params,
+        work,
+        kept,
+    ))
 }
 
 #[unsafe(no_mangle)]
@@ -203,7 +228,9 @@ pub extern "C" fn ngeunsadok_label_components(
         result work.new components.new entries.new }
 {
     let params = label_params(leastquads, leastcorners);
-    tell_labelled(walk::label_components(quads, corners, params, work, components, entries))
+    Counts::from(walk::label_components(
+        quads, corners, params, work, components, entries,
+    ))
 }
 
 #[unsafe(no_mangle)]
@@ -227,7 +254,7 @@ pub extern "C" fn ngeunsadok_label_frame(
     components: &mut [u32],
     entries: &mut [u32],
 ) -> Counts
-    ensures { FrameTold (stages.given x.entry y.entry angles.entry marks.entry spreads.entry triangles.entry twins.entry (params_by tolerance ratio least greatest limit leastquads leastcorners rule))
+    ensures { FrameTold (stages.given (record { corners = record { x = x.entry; y = y.entry }; axes = record { angles = angles.entry; marks = marks.entry; spreads = spreads.entry }; triangles = triangles.entry; twins = twins.entry }) (params_by tolerance ratio least greatest limit leastquads leastcorners rule))
         work.old components.old entries.old
         result work.new components.new entries.new }
 {
@@ -235,7 +262,17 @@ pub extern "C" fn ngeunsadok_label_frame(
     let filters = filter_params(ratio, least, greatest);
     let labels = label_params(leastquads, leastcorners);
     let params = frame_params(edges, filters, labels);
-    tell_labelled(frame::label_frame(
-        x, y, angles, marks, spreads, triangles, twins, params, work, components, entries,
+    let frame = Frame {
+        corners: Positions { x, y },
+        axes: Axes {
+            angles,
+            marks,
+            spreads,
+        },
+        triangles,
+        twins,
+    };
+    Counts::from(frame::label_frame(
+        frame, params, work, components, entries,
     ))
 }

@@ -16,7 +16,8 @@ use Rattle.mesh.specs.Twins.{past_end, points_back, twin_offends, twin_fault, tw
 use Rattle.walk.proofs.Early.{of_room, Early, early_if, early_first, early_then, early_paired, early_limit, early_corners, early_twice, early_work}
 use Rattle.frame.specs.declared.Params.{Params}
 use Rattle.frame.specs.Stages.{Input}
-use Rattle.frame.specs.Call.{lengths_gate, params_gate, values_gate, judge_of, entry_gate}
+use Rattle.classify.specs.Call.{lengths_gate}
+use Rattle.frame.specs.Call.{params_gate, values_gate, judge_of, entry_gate}
 
 early_parameter : (parameter : Float) (number : ℕ) → Early (parameter_row parameter number)
 early_parameter parameter number = early_if (is_nan parameter) (ParameterNan number) refl

@@ -11,7 +11,8 @@ use Rattle.mesh.specs.Twins.{runs_back, twin_offends, twin_fault, twins_row}
 use Rattle.cells.specs.Sums.{total}
 use Rattle.cells.specs.Holes.{holes, places, width, height, held}
 use Rattle.walk.specs.Call.{entry_words, all_entries, component_words}
-use Rattle.frame.specs.Call.{lengths_gate, params_gate, values_gate, judge_of, entry_gate}
+use Rattle.classify.specs.Call.{lengths_gate}
+use Rattle.frame.specs.Call.{params_gate, values_gate, judge_of, entry_gate}
 use Rattle.frame.specs.Call.Allowed.{refused, labelled}
 use Rattle.frame.specs.Single.{Single}
 use Rattle.frame.proofs.Examples.{of_the_frame}

@@ -15,7 +15,7 @@ use Rattle.mesh.specs.Positions.{positions_row}
 use Rattle.mesh.specs.Cells.{corners_row, twice_row}
 use Rattle.mesh.specs.Twins.{twin_offends, twins_row}
 use Rattle.mesh.proofs.Open.{work_open, positions_open, corners_open, twice_open, twins_open, twin_sound}
-use Rattle.classify.specs.Call.{lengths_gate as class_lengths}
+use Rattle.classify.specs.Call.{lengths_gate}
 use Rattle.classify.specs.inner.Triangle as classes_inner
 use Rattle.classify.specs.Classes.{classes_of}
 use Rattle.classify.proofs.Sound as classes_sound
@@ -26,15 +26,10 @@ use Rattle.quads.proofs.Made.{length_words}
 use Rattle.quads.proofs.Sixth.{at_most_a_sixth}
 use Rattle.filter.specs.inner.Steps as filters
 use Rattle.frame.specs.Stages.{Input, classing, merging, filtering}
-use Rattle.frame.specs.Call.{lengths_gate, params_gate, values_gate, judge_of, entry_gate}
+use Rattle.frame.specs.Call.{params_gate, values_gate, judge_of, entry_gate}
 use Rattle.frame.proofs.Written.{words_exist, words_clear}
 
 -- ---- the rows
-
--- rows 1 and 2 are those of classes, with the twins where these have a class list
-pub lengths_open : (x y angles marks spreads triangles twins : ℕ) → lengths_gate x y angles marks spreads triangles twins ≡ Ok tt → classes_sound.Paired x y angles marks spreads triangles twins
-unfolding lengths_gate class_lengths
-lengths_open x y angles marks spreads triangles twins e = classes_sound.lengths_open x y angles marks spreads triangles twins e
 
 -- rows 4 to 7
 record Values (xs ys : List Float) (triangles twins : List ℕ) : Type 0 where
@@ -64,7 +59,7 @@ module _ (i : Input) (through : judge_of i ≡ Ok tt) where
   rows =
       let e1 = open_both (lengths_gate (length i.xs) (length i.ys) (length i.angles) (length i.marks) (length i.spreads) (length i.triangles) (length i.twins)) (params_gate i.params then values_gate i.xs i.ys i.triangles i.twins) through in
       let e2 = open_both (params_gate i.params) (values_gate i.xs i.ys i.triangles i.twins) e1.1 in
-      (lengths_open _ _ _ _ _ _ _ e1.0, values_open i.xs i.ys i.triangles i.twins e2.1)
+      (classes_sound.lengths_open _ _ _ _ _ _ _ e1.0, values_open i.xs i.ys i.triangles i.twins e2.1)
 
   -- ---- classes
 

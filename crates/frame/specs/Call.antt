@@ -6,7 +6,8 @@ use Rattle.refusal.specs.declared.Refusal.{Refusal}
 use Rattle.refusal.specs.Rows.{Gate, ◌then◌}
 use Rattle.measure.specs.Parameter.{parameter_row}
 use Rattle.axis.specs.Cache.{rule_row}
-use Rattle.mesh.specs.Lists.{paired_row, doubled_row, whole_row, limit_row, most_corners, most_half_edges, work_row, frame_words}
+use Rattle.classify.specs.Call.{lengths_gate}
+use Rattle.mesh.specs.Lists.{work_row, frame_words}
 use Rattle.mesh.specs.Positions.{positions_row}
 use Rattle.mesh.specs.Cells.{corners_row, twice_row}
 use Rattle.mesh.specs.Twins.{twins_row}
@@ -14,12 +15,6 @@ use Rattle.cells.specs.Listed.{Entry}
 use Rattle.walk.specs.Call.{Outcome, outcome_in}
 use Rattle.frame.specs.declared.Params.{Params}
 use Rattle.frame.specs.Stages.{Input, Answer}
-
--- rows 1 and 2 look at lengths alone: x, y, axes at two slots a corner; triangles, half-edges
-unfoldable pub lengths_gate : (x y angles marks spreads triangles twins : ℕ) → Gate
-lengths_gate x y angles marks spreads triangles twins =
-    paired_row y x then doubled_row angles x then doubled_row marks x then doubled_row spreads x then whole_row triangles 3 then paired_row twins triangles
-    then limit_row x most_corners then limit_row triangles most_half_edges
 
 -- row 3: tolerance, opposing ratio, least relative length, greatest, spread limit; and row 18
 unfoldable pub params_gate : Params → Gate
@@ -31,7 +26,7 @@ params_gate p =
 unfoldable pub values_gate : List Float → List Float → List ℕ → List ℕ → Gate
 values_gate xs ys triangles twins = positions_row xs ys then corners_row (length xs) triangles then twice_row 3 triangles then twins_row triangles twins
 
--- rows 1 to 7, with 18
+-- rows 1 to 7, with 18; rows 1 and 2 are those of the classes, with the twins where these have a class list
 unfoldable pub judge_of : Input → Gate
 judge_of i =
     lengths_gate (length i.xs) (length i.ys) (length i.angles) (length i.marks) (length i.spreads) (length i.triangles) (length i.twins)

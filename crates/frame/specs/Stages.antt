@@ -1,6 +1,5 @@
 -- A frame, and the stages in a row: classes, quads, filters, labelling. Each is what its own crate defines, of what the stage before gives.
 use Rattle.std.specs.Prelude.{List, ℕ, Float, length}
-use Rattle.std.specs.Borrow.{Bor}
 use Rattle.classify.specs.Classes as classes
 use Rattle.classify.specs.Classes.{classes_of}
 use Rattle.quads.specs.declared.Quad.{Quad}
@@ -11,6 +10,7 @@ use Rattle.filter.specs.Input as filters
 use Rattle.filter.specs.Marks.{Marked, kept_of}
 use Rattle.cells.specs.Listed.{Entry}
 use Rattle.walk.specs.Input as labels
+use Rattle.frame.specs.declared.Frame.{Frame}
 use Rattle.frame.specs.declared.Params.{Params}
 
 -- all that the call reads; angles, marks and spreads have two slots a corner
@@ -24,10 +24,19 @@ pub record Input : Type 0 where
   pub twins : List ℕ
   pub params : Params
 
--- what lent lists hold, in the order in which the call takes them
-abbrev pub given : (x y angles : Bor (List Float)) (marks : Bor (List ℕ)) (spreads : Bor (List Float)) (triangles twins : Bor (List ℕ)) → Params → Input
-given x y angles marks spreads triangles twins params =
-    record { xs = x.now; ys = y.now; angles = angles.now; marks = marks.now; spreads = spreads.now; triangles = triangles.now; twins = twins.now; params = params }
+-- what the lists of a lent frame hold
+abbrev pub given : Frame → Params → Input
+given frame params =
+    record {
+      xs = frame.corners.x.now;
+      ys = frame.corners.y.now;
+      angles = frame.axes.angles.now;
+      marks = frame.axes.marks.now;
+      spreads = frame.axes.spreads.now;
+      triangles = frame.triangles.now;
+      twins = frame.twins.now;
+      params = params;
+    }
 
 module _ (i : Input) where
   -- the classes are of the half-edges

@@ -6,10 +6,12 @@ ghost use Rattle.frame.specs.Stages.{given};
 ghost use Rattle.frame.specs.Call.{judge_of, entry_gate};
 ghost use Rattle.frame.specs.inner.Steps.{Fated, CountedFates};
 
-use crate::Params;
-use crate::gate::{lengths_gate, params_gate, values_gate};
+use crate::{Frame, Params};
+use crate::gate::{params_gate, values_gate};
+use classify::inner::lengths_gate;
 use crate::stages::quads_of;
 use fates::inner::{compute, span_of};
+use laying::inner::sheet::Sheet;
 use mesh::inner::lists::{MOST_QUADS, frame_words, work_row};
 use refusal::Refusal;
 use walk::inner::{Totals, count_components};
@@ -24,28 +26,19 @@ pub struct FrameCounts {
 // Rows 1 to 7, with 18.
 #[tactic(auto, unfolding(crate::specs::Call::judge_of))]
 pub fn judge(
-    x: &[f32],
-    y: &[f32],
-    angles: &[f32],
-    marks: &[u32],
-    spreads: &[f32],
-    triangles: &[u32],
-    twins: &[u32],
+    frame: Frame<'_>,
     params: Params,
 ) -> Result<(), Refusal>
-    ensures { result ≡ judge_of (given x.entry y.entry angles.entry marks.entry spreads.entry triangles.entry twins.entry params) }
+    ensures { result ≡ judge_of (given frame.entry params) }
 {
     lengths_gate(
-        x.len(),
-        y.len(),
-        angles.len(),
-        marks.len(),
-        spreads.len(),
-        triangles.len(),
-        twins.len(),
+        frame.corners,
+        frame.axes,
+        frame.triangles,
+        frame.twins.len(),
     )?;
     params_gate(params)?;
-    values_gate(x, y, triangles, twins)
+    values_gate(frame)
 }
 
 // Row 8, for counts that row 2 let through.
@@ -59,27 +52,19 @@ pub fn work_gate(words: usize, edges: usize, corners: usize) -> Result<(), Refus
 // The stages up to the fate of every group of the quads kept, for a frame that rows 1 to 8 let through; answers the counts, and writes no
 // component.
 pub fn compute_frame(
-    x: &[f32],
-    y: &[f32],
-    angles: &[f32],
-    marks: &[u32],
-    spreads: &[f32],
-    triangles: &[u32],
-    twins: &[u32],
+    frame: Frame<'_>,
     params: Params,
     work: &mut [u32],
 ) -> FrameCounts
-    requires { entry_gate (given x y angles marks spreads triangles twins params) (length work.old) ≡ Ok tt }
-    ensures fated { Fated (given x.entry y.entry angles.entry marks.entry spreads.entry triangles.entry twins.entry params) result.quads work.old work.new }
-    ensures counted_fates { CountedFates (length x.now) result work.new }
+    requires { entry_gate (given frame params) (length work.old) ≡ Ok tt }
+    ensures fated { Fated (given frame.entry params) result.quads work.old work.new }
+    ensures counted_fates { CountedFates (length frame.entry.corners.x.now) result work.new }
 {
-    let labels = params.labels;
     let mut quads = [0u32; 4 * MOST_QUADS];
-    let n = quads_of(
-        x, y, angles, marks, spreads, triangles, twins, params, work, &mut quads,
-    );
-    let span = span_of(n, x.len());
-    compute(&quads[..4 * n], work, span, n, labels);
+    let n = quads_of(frame, params, work, &mut quads);
+    let span = span_of(n, frame.corners.x.len());
+    let sheet = Sheet::new(&quads[..4 * n], span, n);
+    compute(sheet, work, params.labels);
     FrameCounts {
         quads: n,
         totals: count_components(work, span, n),

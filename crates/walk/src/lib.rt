@@ -8,6 +8,7 @@ ghost use Rattle.walk.specs.Call.{Allowed};
 use fates::LabelParams;
 use fates::inner::{compute, span_of};
 use inner::{count_components, write_components};
+use laying::inner::sheet::Sheet;
 use refusal::Refusal;
 
 mod emit;
@@ -38,7 +39,8 @@ pub fn label_components(
     gate::entry(quads, corners as usize, work.len())?;
     let n = quads.len() / 4;
     let span = span_of(n, corners as usize);
-    compute(quads, work, span, n, params);
+    let sheet = Sheet::new(quads, span, n);
+    compute(sheet, work, params);
     let totals = count_components(work, span, n);
     write_components(work, span, n, totals, components, entries)
 }

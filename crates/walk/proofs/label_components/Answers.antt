@@ -18,10 +18,11 @@ returns-in_err-entry c =
     let p = err_from_is_err_and c.from_residual.result c.from_residual.ensures.1 in
     rw (p.1, p.2) (shut _ _ _ _ _ _ (c.entry.ensures c.args.params) c.in_err-entry.was)
 
+pub new-sheet-requires : goal.new-sheet-requires
+new-sheet-requires c = (may_compute (entered (goal.at.new-sheet-requires c).After-span_of-span)).0
+
 pub compute-requires : goal.compute-requires
-compute-requires c =
-    let m = may_compute (entered (goal.at.compute-requires c).After-span_of-span) in
-    record { given = m.0; n_in_bounds = m.1 }
+compute-requires c = omega (arith, (may_compute (entered (goal.at.compute-requires c).After-span_of-span)).1)
 
 pub count_components-totals-requires : goal.count_components-totals-requires
 count_components-totals-requires c = may_emit (entered (goal.at.count_components-totals-requires c).After-span_of-span) c.compute.ensures

@@ -1,6 +1,6 @@
 -- `compute_frame`: the quads kept, at the front of their list, are what labelling reads; what it leaves can be counted.
 use native.Mathlib.Omega.{arith}
-use Rattle.frame.specs.Stages.{Input}
+use Rattle.frame.specs.Stages.{Input, given}
 use Rattle.frame.proofs.Fronts.{front_counted, front_in}
 use Rattle.frame.proofs.Judging.{few_kept, fates_ask, fated}
 use Rattle.frame.proofs.Outcomes.{may_emit}
@@ -8,7 +8,7 @@ use Rattle.frame.proofs.inner.compute_frame.Goals as goal
 use Rattle.frame.proofs.inner.compute_frame.Goals.{Start}
 
 abbrev read : Start → Input
-read s = record { xs = s.args.x.now; ys = s.args.y.now; angles = s.args.angles.now; marks = s.args.marks.now; spreads = s.args.spreads.now; triangles = s.args.triangles.now; twins = s.args.twins.now; params = s.args.params }
+read s = given s.args.frame s.args.params
 
 pub overflow_mul-quads : goal.overflow_mul-quads
 overflow_mul-quads c = omega (arith, few_kept (read (goal.at.overflow_mul-quads c).Start) _ _ c.quads_of-n.ensures.0 _ c.requires)

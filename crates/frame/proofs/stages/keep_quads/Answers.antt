@@ -10,7 +10,7 @@ use Rattle.frame.proofs.stages.keep_quads.Goals as goal
 use Rattle.frame.proofs.stages.keep_quads.Goals.{Start}
 
 abbrev read : Start → Input
-read s = record { xs = s.args.x.now; ys = s.args.y.now; quads = take (4 * s.args.n) s.args.quads.now; params = s.args.params }
+read s = record { xs = s.args.corners.x.now; ys = s.args.corners.y.now; quads = take (4 * s.args.n) s.args.quads.now; params = s.args.params }
 
 pub slice_bounds-mark_quads-end-2 : goal.slice_bounds-mark_quads-end-2
 slice_bounds-mark_quads-end-2 c = sym (length-take-le _ _ c.requires.2)

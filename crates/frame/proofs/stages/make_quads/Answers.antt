@@ -1,12 +1,12 @@
 -- `make_quads`: classes, then the quads by these classes.
-use Rattle.frame.specs.Stages.{Input}
+use Rattle.frame.specs.Stages.{Input, given}
 use Rattle.frame.proofs.Sound.{classing_sound}
 use Rattle.frame.proofs.Making.{merge_asks, made}
 use Rattle.frame.proofs.stages.make_quads.Goals as goal
 use Rattle.frame.proofs.stages.make_quads.Goals.{Start}
 
 abbrev read : Start → Input
-read s = record { xs = s.args.x.now; ys = s.args.y.now; angles = s.args.angles.now; marks = s.args.marks.now; spreads = s.args.spreads.now; triangles = s.args.triangles.now; twins = s.args.twins.now; params = s.args.params }
+read s = given s.args.frame s.args.params
 
 pub classify_triangles-requires : goal.classify_triangles-requires
 classify_triangles-requires c = (classing_sound (read (goal.at.classify_triangles-requires c).Start) c.requires.rows_open, c.requires.classes_len.0)

@@ -2,7 +2,7 @@
 use mathlib.Core.Path.{sym, ◌∙◌}
 use native.Mathlib.Omega.{arith}
 use lib.Seq.{length-take-le}
-use Rattle.frame.specs.Stages.{Input}
+use Rattle.frame.specs.Stages.{Input, given}
 use Rattle.frame.proofs.Sound.{entry_open}
 use Rattle.frame.proofs.Handing.{same_work, filters_ask, sifted_made}
 use Prim.Native.Nat.{◌≤◌}
@@ -11,10 +11,10 @@ use Rattle.frame.proofs.stages.quads_of.Goals as goal
 use Rattle.frame.proofs.stages.quads_of.Goals.{Start}
 
 abbrev read : Start → Input
-read s = record { xs = s.args.x.now; ys = s.args.y.now; angles = s.args.angles.now; marks = s.args.marks.now; spreads = s.args.spreads.now; triangles = s.args.triangles.now; twins = s.args.twins.now; params = s.args.params }
+read s = given s.args.frame s.args.params
 
 -- there is a word of work for each half-edge
-edges_fit : (s : Start) → length s.args.triangles.now ≤ length s.args.work.now
+edges_fit : (s : Start) → length s.args.frame.triangles.now ≤ length s.args.work.now
 edges_fit s = omega (arith, (entry_open (read s) _ s.requires.0).1)
 
 pub slice_bounds-make_quads-end : goal.slice_bounds-make_quads-end
