@@ -12,8 +12,7 @@ use Rattle.words.proofs.Cuts.{ascends}
 use Rattle.words.proofs.Moving.{two_past, two_at}
 use Rattle.words.proofs.Regions.{kept_refl, kept_set}
 use Rattle.fates.specs.inner.Fates.{records_at, lone_at, seed_in}
-use Rattle.fates.specs.inner.Singles.{Alike, Unique, SeedOrder, Picks, CopyOf, From, To, Picked, Batch, LoneFrom}
-use Rattle.fates.specs.inner.Singles.Picks.{left, took}
+use Rattle.fates.specs.inner.Singles.{Alike, Unique, SeedOrder, CopyOf, From, To, Picked, Batch, LoneFrom}
 use Rattle.fates.proofs.Singles.{alike_of}
 
 -- ---- copied records
@@ -141,10 +140,12 @@ module _ (xs ys : List ℕ) (a b m k r : ℕ) (O : Room xs a b m) (R : SeedOrder
             let v : j < r = omega (arith, q) in
             omega (arith, grouped_copied (old i (omega arith)), grouped_copied (old j v), P.rises i j l v)
 
--- what `Picks` leaves, seen from the records at the start
-pub picked_more : (xs ys zs : List ℕ) (a b m k r : ℕ) {t : ℕ} → Room xs a b m → SeedOrder xs a m → k < m → Kept xs ys b (2 * m) → Picked xs ys a b m k r → Picks ys zs a b m k r t → Kept xs zs b (2 * m) × Picked xs zs a b m (k + 1) t
-picked_more xs ys zs a b m k r O R h e P (left n q) = rw q (e, passed_over xs ys a b m k r O R h e P (λ o. n (single_now e O k h o)))
-picked_more xs ys zs a b m k r O R h e P (took o q) = rw q (zs_kept xs ys a b m k r O R h e P, added xs ys a b m k r O R h e P (single_then e O k h o))
+  -- the same by the records as they stand now
+  pub picked_left : (Unique ys a m k → ⊥) → Kept xs ys b (2 * m) × Picked xs ys a b m (k + 1) r
+  picked_left n = (e, passed_over (λ o. n (single_now e O k h o)))
+
+  pub picked_took : Unique ys a m k → Kept xs zs b (2 * m) × Picked xs zs a b m (k + 1) (r + 1)
+  picked_took o = (zs_kept, added (single_then e O k h o))
 
 -- ---- the ordering
 

@@ -1,10 +1,15 @@
 -- The workspace before the first walk, from what each routine leaves of it. Assumes nothing.
 use mathlib.Core.Path.{◌≡◌, sym, ap, ◌∙◌}
-use mathlib.Core.List.{List}
+use mathlib.Core.List.{List, ◌++◌}
 use Prim.Native.Nat.{ℕ, ◌+◌, ◌*◌, ◌-◌, ◌/◌, ◌≤◌, ◌<◌}
+use native.Mathlib.Decide.{dec_lt}
 use native.Mathlib.Omega.{arith}
-use lib.ListN.{length, get_or}
-use Rattle.words.specs.inner.Regions.{Filled}
+use lib.ListN.{length, get_or, take, drop, replicate, length-replicate}
+use lib.Seq.{length-take-le}
+use borrow.Author.Rules.{rules}
+use Rattle.std.specs.List.{CopiedTo, SameBelow, SameFrom}
+use Rattle.std.proofs.lemmas.List.{places}
+use Rattle.words.specs.inner.Regions.{Outside, Filled}
 use Rattle.words.specs.Sorting.{equal}
 use Rattle.cells.specs.Cells.{everyone}
 use Rattle.cells.specs.inner.Sides.{side_key}
@@ -16,6 +21,32 @@ use Rattle.fates.specs.inner.Prepared.{Sided, Ready}
 use Rattle.fates.proofs.RunStarts.{walk_table}
 use Rattle.fates.proofs.Members.{equal_same}
 use Rattle.fates.proofs.Seating.{inside}
+
+-- the front of a list that has come back all zero
+pub front_zero : (xs ys : List ℕ) (m : ℕ) → m ≤ length xs → ys ≡ replicate (length (take m xs)) 0 → Filled xs (ys ++ drop m xs) 0 m m (λ (k : ℕ). 0)
+front_zero xs ys m h e = record {
+  kept = record { len = let l = same in search (rules, places); rest = λ k o. rest k o (dec_lt k m) };
+  holds = λ k l. let s = same in search (rules, places);
+}
+  where
+    same : length ys ≡ m
+    same = ap length e ∙ length-replicate (length (take m xs)) 0 ∙ length-take-le m xs h
+
+    rest : (k : ℕ) → Outside 0 m k → Dec (k < m) → get_or (ys ++ drop m xs) k 0 ≡ get_or xs k 0
+    rest k o (yes l) = absurd (o k l (omega arith))
+    rest k o (no l) = let s = same in search (rules, places)
+
+-- n words that are copied within a list
+pub filled_copy : (xs ys : List ℕ) (from at m n : ℕ) → m ≡ n → length ys ≡ length xs → CopiedTo xs ys from at m × SameBelow xs ys at × SameFrom xs ys (at + m) → Filled xs ys at n n (λ (k : ℕ). get_or xs (from + k) 0)
+filled_copy xs ys from at m n e len c = record {
+  kept = record { len = len; rest = λ k o. rest k o (dec_lt k at) (dec_lt k (at + m)) };
+  holds = λ k l. c.0 (at + k) 0 (omega arith) (omega arith) ∙ ap (λ (i : ℕ). get_or xs i 0) (omega arith);
+}
+  where
+    rest : (k : ℕ) → Outside at n k → Dec (k < at) → Dec (k < at + m) → get_or ys k 0 ≡ get_or xs k 0
+    rest k o (yes l) d = c.1 k 0 l
+    rest k o (no l) (yes u) = absurd (o (k - at) (omega arith) (omega arith))
+    rest k o (no l) (no u) = c.2 k 0 (omega arith)
 
 -- after the groups (sided), the run starts (told), the move, the count, and the zeros at the front and in the flags
 module _ (span : ℕ) (cells : List ℕ) (n : ℕ) (given : Given span cells n) (ws xs : List ℕ) (room : 4 * span + 26 * n ≤ length ws) (sided : Sided span cells n ws xs) where

@@ -12,7 +12,6 @@ use laying::inner::clear::{clear, wipe};
 use laying::inner::corners::corner_of;
 use laying::inner::label::label;
 use laying::inner::layout::{GROUPS, KEYS, RECORDS, SEEDS, WALKED};
-use words::inner::wide;
 
 // Corner c has no words; where it had, a record of them follows the m records.
 fn take_corner(work: &mut [u32], span: usize, n: usize, seed: usize, m: usize, c: usize) -> usize
@@ -50,11 +49,9 @@ fn take_quad(
 {
     work[q] = 0;
     let mut r = m;
-    let mut k = 0;
-    while k < 4 {
+    for k in 0..4 {
         let c = corner_of(quads, span, n, q, k);
         r = take_corner(work, span, n, seed, r, c);
-        k += 1;
     }
     r
 }
@@ -75,11 +72,9 @@ fn take(
     ensures { Taken span n seed work.old work.new m result tail }
 {
     let mut r = m;
-    let mut i = 0;
-    while i < tail {
-        let q = wide(work[span + i]);
+    for i in 0..tail {
+        let q = work[span + i] as usize;
         r = take_quad(quads, work, span, n, seed, r, q);
-        i += 1;
     }
     r
 }
@@ -119,7 +114,7 @@ fn gather_seed(
     requires begun { Begun span quads.now n seed m work.old }
     ensures { Advances span quads.now n seed m result work.old work.new }
 {
-    if wide(work[4 * span + GROUPS * n + seed]) != seed {
+    if work[4 * span + GROUPS * n + seed] as usize != seed {
         return m;
     }
     walk_from(quads, work, span, n, seed, m)
@@ -132,10 +127,8 @@ pub(crate) fn gather(quads: &[u32], work: &mut [u32], span: usize, n: usize) -> 
     ensures { Gathers span quads.now n result work.old work.new }
 {
     let mut m = 0;
-    let mut seed = 0;
-    while seed < n {
+    for seed in 0..n {
         m = gather_seed(quads, work, span, n, seed, m);
-        seed += 1;
     }
     m
 }

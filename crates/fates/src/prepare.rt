@@ -12,15 +12,6 @@ ghost use Rattle.fates.specs.inner.Prepared.{Sided, Ready};
 
 use cells::inner::groups;
 use laying::inner::layout::{FLAGS, GROUPS, RUNS};
-use words::inner::{fill_zero, wide};
-
-// The `count` words from `at` on are 0.
-fn zero_from(work: &mut [u32], at: usize, count: usize)
-    requires { at + count ≤ length work.old }
-    ensures { Filled work.old work.new at count count (λ (k : ℕ). 0) }
-{
-    fill_zero(&mut work[at..at + count]);
-}
 
 // The groups, with no quad marked, and the ordered table after them. Their part of the workspace begins inside the second words, so
 // that the table stands where the walk reads it.
@@ -30,7 +21,7 @@ fn list_groups(quads: &[u32], work: &mut [u32], span: usize, n: usize)
     ensures { Sided span quads.now n work.old work.new }
 {
     let at = 4 * span - 2 * n;
-    zero_from(work, at, n);
+    work[at..at + n].fill(0);
     groups(quads, 4, n, &mut work[at..at + 18 * n]);
 }
 
@@ -39,11 +30,7 @@ fn move_groups(work: &mut [u32], span: usize, n: usize)
     requires { (4 * span + 26 * n ≤ length work.old) × (n ≤ span) × (span ≤ most_corners) }
     ensures { Filled work.old work.new (groups_at span n) n n (λ (q : ℕ). get_or work.old (4 * span - n + q) 0) }
 {
-    let mut q = 0;
-    while q < n {
-        work[4 * span + GROUPS * n + q] = work[4 * span - n + q];
-        q += 1;
-    }
+    work.copy_within(4 * span - n..4 * span, 4 * span + GROUPS * n);
 }
 
 // Where the run of place i begins, with the last run begun at f.
@@ -63,12 +50,10 @@ fn tell_runs(work: &mut [u32], span: usize, n: usize)
     ensures { Told span n work.old work.new (4 * n) }
 {
     let mut f = 0;
-    let mut i = 0;
-    while i < 4 * n {
+    for i in 0..4 * n {
         f = run_start(work, span, f, i);
-        let e = wide(work[4 * span + 2 * i + 1]);
+        let e = work[4 * span + 2 * i + 1] as usize;
         work[4 * span + RUNS * n + e] = f as u32;
-        i += 1;
     }
 }
 
@@ -79,11 +64,9 @@ fn tally_groups(work: &mut [u32], at: usize, n: usize)
     requires cleared { (s : ℕ) → s < n → get_or work.old (at + n + s) 0 ≡ 0 }
     ensures { Filled work.old work.new (at + n) n n (equal (λ (q : ℕ). get_or work.old (at + q) 0) n) }
 {
-    let mut q = 0;
-    while q < n {
-        let s = wide(work[at + q]);
+    for q in 0..n {
+        let s = work[at + q] as usize;
         work[at + n + s] += 1;
-        q += 1;
     }
 }
 
@@ -93,7 +76,7 @@ fn count_members(work: &mut [u32], at: usize, n: usize)
     requires by_index { (q : ℕ) → q < n → get_or work.old (at + q) 0 < n }
     ensures { Filled work.old work.new (at + n) n n (equal (λ (q : ℕ). get_or work.old (at + q) 0) n) }
 {
-    zero_from(work, at + n, n);
+    work[at + n..at + n + n].fill(0);
     tally_groups(work, at, n);
 }
 
@@ -107,6 +90,6 @@ pub(crate) fn prepare(quads: &[u32], work: &mut [u32], span: usize, n: usize)
     tell_runs(work, span, n);
     move_groups(work, span, n);
     count_members(work, 4 * span + GROUPS * n, n);
-    zero_from(work, 0, 4 * span);
-    zero_from(work, 4 * span + FLAGS * n, 4 * n);
+    work[..4 * span].fill(0);
+    work[4 * span + FLAGS * n..4 * span + FLAGS * n + 4 * n].fill(0);
 }
