@@ -1,7 +1,7 @@
 -- The workspace before the first walk, from what each routine leaves of it. Assumes nothing.
 use mathlib.Core.Path.{◌≡◌, sym, ap, ◌∙◌}
 use mathlib.Core.List.{List, ◌++◌}
-use Prim.Native.Nat.{ℕ, ◌+◌, ◌*◌, ◌-◌, ◌/◌, ◌≤◌, ◌<◌}
+use Prim.Native.Nat.{ℕ, ◌+◌, ◌*◌, ◌-◌, ◌≤◌, ◌<◌}
 use native.Mathlib.Decide.{dec_lt}
 use native.Mathlib.Omega.{arith}
 use lib.ListN.{length, get_or, take, drop, replicate, length-replicate}
@@ -12,11 +12,10 @@ use Rattle.std.proofs.lemmas.List.{places}
 use Rattle.words.specs.inner.Regions.{Outside, Filled}
 use Rattle.words.specs.Sorting.{equal}
 use Rattle.cells.specs.Cells.{everyone}
-use Rattle.cells.specs.inner.Sides.{side_key}
 use Rattle.cells.proofs.Groups.{groups_same}
 use Rattle.laying.specs.inner.Layout.{flags_at, Given}
 use Rattle.fates.specs.inner.Fates.{groups_at, fates_at}
-use Rattle.fates.specs.inner.Runs.{Rising, Told}
+use Rattle.fates.specs.inner.Runs.{Told}
 use Rattle.fates.specs.inner.Prepared.{Sided, Ready}
 use Rattle.fates.proofs.RunStarts.{walk_table}
 use Rattle.fates.proofs.Members.{equal_same}
@@ -50,26 +49,12 @@ filled_copy xs ys from at m n e len c = record {
 
 -- after the groups (sided), the run starts (told), the move, the count, and the zeros at the front and in the flags
 module _ (span : ℕ) (cells : List ℕ) (n : ℕ) (given : Given span cells n) (ws xs : List ℕ) (room : 4 * span + 26 * n ≤ length ws) (sided : Sided span cells n ws xs) where
-  pub rising : Rising span n xs
-  rising = record {
-    room = omega (arith, sided.len);
-    few = given.few;
-    most = given.most;
-    sides = sided.table.sides;
-    alike = λ i j hi hj e. sided.table.keys i hi ∙ ap (λ (z : ℕ). side_key 4 cells (z / 4) z) e ∙ sym (sided.table.keys j hj);
-    ascends = sided.table.ascends;
-  }
-
   module _ (ys zs : List ℕ) (told : Told span n xs ys (4 * n)) (moved : Filled ys zs (groups_at span n) n n (λ (q : ℕ). get_or ys (4 * span - n + q) 0)) where
     len_moved : length zs ≡ length ws
     len_moved = moved.kept.len ∙ told.kept.len ∙ sided.len
 
     group_moved : (q : ℕ) → q < n → get_or zs (groups_at span n + q) 0 ≡ get_or xs (4 * span - n + q) 0
     group_moved q h = moved.holds q h ∙ told.kept.rest (4 * span - n + q) (λ j l e. omega (arith, given.few))
-
-    -- a group's number is one of the quads'
-    pub group_small : (q : ℕ) → q < n → get_or zs (groups_at span n + q) 0 < n
-    group_small q h = omega (arith, group_moved q h, sided.groups.lowest q h)
 
     module _ (cs fs es : List ℕ) (counted : Filled zs cs (groups_at span n + n) n n (equal (λ (q : ℕ). get_or zs (groups_at span n + q) 0) n)) (front : Filled cs fs 0 (4 * span) (4 * span) (λ (k : ℕ). 0)) (flags : Filled fs es (flags_at span n) (4 * n) (4 * n) (λ (k : ℕ). 0)) where
       len : length es ≡ length ws

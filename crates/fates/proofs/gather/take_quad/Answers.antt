@@ -1,8 +1,13 @@
 -- `take_quad`: after the mark, its first k corners have no words.
 use mathlib.Core.Path.{◌≡◌}
 use native.Mathlib.Omega.{arith}
-use Rattle.fates.proofs.Draining.{emptied}
+use Rattle.fates.proofs.Draining.{stripped_more, emptied}
 use Rattle.fates.proofs.gather.take_quad.Goals as goal
+
+pub loop-k-preserved : goal.loop-k-preserved
+loop-k-preserved c =
+    let t = c.take_corner-r.ensures in
+    stripped_more c.corner_of-c.result c.requires.given.0 c.requires.q_lt_n.0 c.loop-k.invariant t.0 t.1 c.corner_of-c.ensures.0 t.2
 
 pub returns : goal.returns
 returns c =
