@@ -1,16 +1,19 @@
 -- Records in order of the quads stand in one stretch for each: a cursor goes from stretch to stretch, and where the records' words are the
 -- same in another list, so is all that is said of them. Assumes nothing.
 use mathlib.Core.Path.{◌≡◌, sym, ap₂, ◌∙◌}
+use mathlib.Core.Logic.{◌≢◌}
 use mathlib.Core.List.{List}
-use Prim.Native.Nat.{ℕ, ◌+◌, ◌*◌, ◌<◌}
+use Prim.Native.Nat.{ℕ, ◌+◌, ◌*◌, ◌≤◌, ◌<◌}
 use native.Mathlib.Decide.{dec_lt}
 use native.Mathlib.Omega.{arith}
+use Rattle.std.specs.Prelude.{Option, None, Some, MatchOption}
+use Rattle.std.specs.Option.{unwrap_or}
 use Rattle.words.specs.inner.Order.{word_of, grouped_of}
 use Rattle.cells.specs.Kind.{Pair}
 use Rattle.fates.specs.inner.Fates.{key_in, seed_in, Holding}
 use Rattle.fates.specs.inner.Index.{Stretch}
 use Rattle.fates.specs.inner.Singles.{Follows}
-use Rattle.fates.specs.inner.Judging.{Cursor, Begins}
+use Rattle.fates.specs.inner.Judging.{Lined, Cursor, Begins}
 use Rattle.fates.proofs.Holdings.{same_seed, holding_more}
 
 -- ---- from stretch to stretch
@@ -21,6 +24,13 @@ cursor_next {w} {a} {s = s} {from} {to} r = record { most = r.most; before = λ 
     go : (k : ℕ) → k < to → Dec (k < from) → seed_in w a k < s + 1
     go k h (yes l) = omega (arith, r.before k l)
     go k h (no l) = omega (arith, r.within k (omega (arith, l)) h)
+
+-- quad s's records begin at `from`, and end before the first that is not of s
+pub stretch_found : {w : List ℕ} {a m s from : ℕ} (r : Option ℕ) → Lined w a m → Cursor w a m s from
+    → MatchOption r ((k : ℕ) → from ≤ k → k < m → seed_in w a k ≡ s) (λ i. (from ≤ i) × (i < m) × (seed_in w a i ≢ s) × ((k : ℕ) → from ≤ k → k < i → seed_in w a k ≡ s))
+    → Stretch w a m s from (unwrap_or r m)
+stretch_found None l c h = record { up = c.most; most = omega arith; before = c.before; within = h; after = λ k b e. absurd (omega arith) }
+stretch_found (Some i) l c h = record { up = h.0; most = omega arith; before = c.before; within = h.3; after = λ k b e. omega (arith, h.2, c.after i h.0 h.1, l.ascends i k b e) }
 
 -- ---- the same words
 

@@ -15,12 +15,9 @@ fn run_end(work: &[u32], at: usize, m: usize, s: usize, from: usize) -> usize
     requires { Lined work.now at m × Cursor work.now at m s from }
     ensures { Stretch work.now at m s from result }
 {
-    for i in from..m {
-        if (work[at + 2 * i + 1] % SEEDS) as usize != s {
-            return i;
-        }
-    }
-    m
+    (from..m)
+        .find(|&i| (work[at + 2 * i + 1] % SEEDS) as usize != s)
+        .unwrap_or(m)
 }
 
 // Whether record k of the `count` from a on is the first of several with its pair.
