@@ -5,18 +5,21 @@ use mathlib.Core.List.{List}
 use Prim.Native.Nat.{ℕ, ◌+◌, ◌*◌, ◌/◌, ◌%◌, ◌<◌}
 use native.Mathlib.Omega.{arith}
 use lib.ListN.{get_or}
+use Rattle.std.specs.Prelude.{Result, Ok, Err}
 use Rattle.cells.specs.Cells.{cell}
 use Rattle.cells.specs.Kind.{Next, Reached, ReachedCorner, origin}
 use Rattle.cells.specs.Kind.Chain.{here, on}
 use Rattle.cells.specs.Quads.{quads}
 use Rattle.cells.proofs.Squares.{four, fits_round}
+use Rattle.laying.specs.declared.Clash.{Clash}
 use Rattle.laying.specs.inner.Layout.{Near, mark, queued, first_word, second_word, pair_of, Given}
 use Rattle.laying.specs.inner.Invariant.{Cornered, Met, State}
 use Rattle.laying.specs.inner.Settling.{Bears}
-use Rattle.laying.specs.inner.Moves.{Grows, Closed, Seeded}
-use Rattle.laying.specs.inner.Answers.{Fitted}
+use Rattle.laying.specs.inner.Moves.{Grows, Went, Closed, Seeded, Planted}
+use Rattle.laying.specs.inner.Answers.{Fitted, Labelled}
 use Rattle.laying.proofs.Around.{same_corner}
 use Rattle.laying.proofs.Facing.{corner_below, next_across, reached_below}
+use Rattle.laying.proofs.Resting.{rest_trans}
 use Rattle.laying.proofs.Stepping.{tail_le, reached_at}
 
 -- the seed's words stay
@@ -78,3 +81,10 @@ module _ (span : ℕ) (cells : List ℕ) (n seed : ℕ) (w : List ℕ) (t : ℕ)
     near = near;
     cover = st.cover;
   }
+
+-- from the planted seed the walk ends with the queue used up, or is stuck
+pub labelled : {span : ℕ} {cells : List ℕ} {n seed : ℕ} {xs ys zs : List ℕ} → Given span cells n → seed < n → (r : Result ℕ Clash) → Planted span cells n seed xs ys → Went span cells n seed ys zs 1 r (Closed span cells n) → Labelled span cells n seed xs zs r
+labelled {span} {cells} {n} {seed} {xs} {ys} {zs} given l (Ok t) p w =
+    let g = w.ended in
+    record { rest = rest_trans p.rest w.rest; ended = fitted span cells n seed zs t given g.state g.done l (g.grows.still seed (omega (arith, given.few)) p.first) (seeded_still given l p.seeded g.grows) }
+labelled given l (Err c) p w = record { rest = rest_trans p.rest w.rest; ended = w.ended }

@@ -30,10 +30,6 @@ is_sense a b = go (dec_lt a b)
         let e : sense_from a b ≡ 2 = rw (le-ltb a b (omega arith)) in
         down e
 
-pub sense_range : {s : ℕ} → Sense s → (0 < s) × (s < 3)
-sense_range (up e) = (omega arith, omega arith)
-sense_range (down e) = (omega arith, omega arith)
-
 none_scanned : {s : ℕ} → Sense s → Scanned 0 s → ⊥
 none_scanned (up e) h = omega (arith, rw e at h)
 none_scanned (down e) h = omega (arith, rw e at h)

@@ -6,13 +6,14 @@ use Prim.Native.Nat.{ℕ, ◌+◌, ◌*◌, ◌/◌, ◌≤◌, ◌<◌}
 use native.Mathlib.Decide.{ℕ_discrete}
 use native.Mathlib.Omega.{arith}
 use lib.ListN.{length, get_or, set, length-set}
+use Rattle.std.specs.Prelude.{Ok}
 use Rattle.cells.specs.Cells.{cell}
 use Rattle.cells.specs.Kind.{Reached}
 use Rattle.cells.specs.Quads.{quads}
 use Rattle.laying.specs.inner.Layout.{mark, queued, first_word, second_word, run_of, flags_at, flag_of, side_start, side_end, sense, Scanned, Given, Table}
 use Rattle.laying.specs.inner.Invariant.{Cornered, Met, Flags, State}
 use Rattle.laying.specs.inner.Settling.{Bears}
-use Rattle.laying.specs.inner.Moves.{stuck, Grows, Rest, Goes, Went}
+use Rattle.laying.specs.inner.Moves.{Grows, Went}
 use Rattle.laying.proofs.Facing.{corner_below}
 use Rattle.laying.proofs.Counts.{count_same}
 use Rattle.laying.proofs.Settling.{skip, put}
@@ -69,12 +70,12 @@ module _ {span : ℕ} {cells : List ℕ} {n : ℕ} (given : Given span cells n) 
 
 -- the flag of the run of e is set, after the scan from e
 module _ (span : ℕ) (cells : List ℕ) (n seed : ℕ) (xs ys : List ℕ) (tail r e : ℕ) (given : Given span cells n) (table : Table span cells n xs) (el : e < 4 * n) (before : Flags span cells n seed xs)
-    (reached : Reached quads cells seed (e / 4)) (unset : Scanned (flag_of span n xs e) (sense cells e) → ⊥) (rest : Rest span cells n seed xs ys) (goes : Goes span cells n seed xs ys tail r (Met cells n e)) where
+    (reached : Reached quads cells seed (e / 4)) (unset : Scanned (flag_of span n xs e) (sense cells e) → ⊥) (went : Went span cells n seed xs ys tail (Ok r) (λ _. Met cells n e)) where
   zs : List ℕ
   zs = set ys (flags_at span n + run_of span n xs e) (flag_of span n xs e + sense cells e)
 
   room : flags_at span n + run_of span n xs e < length ys
-  room = omega (arith, table.runs e el, table.room, rest.len)
+  room = omega (arith, table.runs e el, table.room, went.rest.len)
 
   other : (k : ℕ) → k ≢ flags_at span n + run_of span n xs e → get_or zs k 0 ≡ get_or ys k 0
   unfolding zs
@@ -88,7 +89,7 @@ module _ (span : ℕ) (cells : List ℕ) (n seed : ℕ) (xs ys : List ℕ) (tail
   low k h = other k (omega arith)
 
   run_of_lem : (g : ℕ) → g < 4 * n → run_of span n zs g ≡ run_of span n xs g
-  run_of_lem g gl = other (4 * span + 8 * n + g) (omega arith) ∙ same_run rest g gl
+  run_of_lem g gl = other (4 * span + 8 * n + g) (omega arith) ∙ same_run went.rest g gl
 
   still : (q : ℕ) → q < span → mark ys q ≢ 0 → mark zs q ≢ 0
   still q l m z = m (sym (low q (omega arith)) ∙ z)
@@ -99,22 +100,22 @@ module _ (span : ℕ) (cells : List ℕ) (n seed : ℕ) (xs ys : List ℕ) (tail
 
   -- a side of another
   other_flag : (g : ℕ) → g < 4 * n → run_of span n xs g ≢ run_of span n xs e → flag_of span n zs g ≡ flag_of span n ys g
-  other_flag g gl d = ap (λ (m : ℕ). get_or zs (flags_at span n + m) 0) (run_of_lem g gl) ∙ other (flags_at span n + run_of span n xs g) (omega arith) ∙ ap (λ (m : ℕ). get_or ys (flags_at span n + m) 0) (sym (same_run rest g gl))
+  other_flag g gl d = ap (λ (m : ℕ). get_or zs (flags_at span n + m) 0) (run_of_lem g gl) ∙ other (flags_at span n + run_of span n xs g) (omega arith) ∙ ap (λ (m : ℕ). get_or ys (flags_at span n + m) 0) (sym (same_run went.rest g gl))
 
   small : (g : ℕ) → g < 4 * n → Reached quads cells seed (g / 4) → Dec (run_of span n xs g ≡ run_of span n xs e) → flag_of span n zs g < 4
   small g gl q (yes d) = rw (own_flag g gl d) (set_small (flag_of span n xs e) (is_sense (side_start cells e) (side_end cells e)) (before.small e el reached) unset)
-  small g gl q (no d) = rw (other_flag g gl d) (goes.state.flags.small g gl q)
+  small g gl q (no d) = rw (other_flag g gl d) (went.ended.state.flags.small g gl q)
 
   same_sense : (g : ℕ) → g < 4 * n → Reached quads cells seed (g / 4) → run_of span n xs g ≡ run_of span n xs e → Scanned (flag_of span n xs e + sense cells e) (sense cells g) → Dec (sense cells g ≡ sense cells e) → Met cells n g ys
-  same_sense g gl q d h (yes s) = met_run given e g ys table el gl (sym d) (sym s) goes.done
+  same_sense g gl q d h (yes s) = met_run given e g ys table el gl (sym d) (sym s) went.ended.done
   same_sense g gl q d h (no s) =
       let f : flag_of span n xs e ≡ flag_of span n xs g = ap (λ (m : ℕ). get_or xs (flags_at span n + m) 0) (sym d) in
       let o : Scanned (flag_of span n xs e) (sense cells g) = set_other (flag_of span n xs e) (is_sense (side_start cells e) (side_end cells e)) (is_sense (side_start cells g) (side_end cells g)) unset s h in
-      met_still given xs ys g goes.grows.still (before.met g gl q (rw f at o))
+      met_still given xs ys g went.ended.grows.still (before.met g gl q (rw f at o))
 
   met : (g : ℕ) → g < 4 * n → Reached quads cells seed (g / 4) → Scanned (flag_of span n zs g) (sense cells g) → Dec (run_of span n xs g ≡ run_of span n xs e) → Met cells n g ys
   met g gl q h (yes d) = same_sense g gl q d (rw (own_flag g gl d) at h) (ℕ_discrete (sense cells g) (sense cells e))
-  met g gl q h (no d) = goes.state.flags.met g gl q (rw (other_flag g gl d) at h)
+  met g gl q h (no d) = went.ended.state.flags.met g gl q (rw (other_flag g gl d) at h)
 
   set_flags : Flags span cells n seed zs
   set_flags = record {
@@ -122,18 +123,17 @@ module _ (span : ℕ) (cells : List ℕ) (n seed : ℕ) (xs ys : List ℕ) (tail
     met = λ g gl q h. met_still given ys zs g still (met g gl q h (ℕ_discrete (run_of span n xs g) (run_of span n xs e)));
   }
 
-  scanned : r < stuck → Went span cells n seed xs (set ys (flags_at span n + run_of span n xs e) (flag_of span n xs e + sense cells e)) tail r (Met cells n e)
+  scanned : Went span cells n seed xs (set ys (flags_at span n + run_of span n xs e) (flag_of span n xs e + sense cells e)) tail (Ok r) (λ _. Met cells n e)
   unfolding zs
-  scanned l = record {
-    rest = record { len = length-set ys (flags_at span n + run_of span n xs e) (flag_of span n xs e + sense cells e) ∙ rest.len; rest = λ k h f. other k (f e el reached) ∙ rest.rest k h f };
-    goes = λ _. record {
-      state = same_state given ys zs low goes.state set_flags;
-      grows = same_grows given ys zs low (tail_le goes.state.cover) goes.grows;
-      done = met_still given ys zs e still goes.done;
+  scanned = record {
+    rest = record { len = length-set ys (flags_at span n + run_of span n xs e) (flag_of span n xs e + sense cells e) ∙ went.rest.len; rest = λ k h f. other k (f e el reached) ∙ went.rest.rest k h f };
+    ended = record {
+      state = same_state given ys zs low went.ended.state set_flags;
+      grows = same_grows given ys zs low (tail_le went.ended.state.cover) went.ended.grows;
+      done = met_still given ys zs e still went.ended.done;
     };
-    ends = λ h. absurd (omega arith);
   }
 
   -- the same, of the run and the sense by other names
-  pub scanned_at : (f s : ℕ) → f ≡ run_of span n xs e → s ≡ sense cells e → r < stuck → Went span cells n seed xs (set ys (flags_at span n + f) (get_or xs (flags_at span n + f) 0 + s)) tail r (Met cells n e)
-  scanned_at f s ef es l = rw (ef, es) (scanned l)
+  pub scanned_at : (f s : ℕ) → f ≡ run_of span n xs e → s ≡ sense cells e → Went span cells n seed xs (set ys (flags_at span n + f) (get_or xs (flags_at span n + f) 0 + s)) tail (Ok r) (λ _. Met cells n e)
+  scanned_at f s ef es = rw (ef, es) scanned

@@ -6,17 +6,18 @@ use mathlib.Core.List.{List}
 use Prim.Native.Nat.{ℕ, ◌+◌, ◌*◌, ◌/◌, ◌≤◌, ◌<◌}
 use native.Mathlib.Decide.{ℕ_discrete, dec_lt}
 use native.Mathlib.Omega.{arith}
+use Rattle.std.specs.Prelude.{Ok, Err}
 use Rattle.laying.specs.inner.Layout.{mark, queued, key_at, number_at, run_of, Given, InRun, Table}
 use Rattle.laying.specs.inner.Invariant.{Meets, Met, State}
-use Rattle.laying.specs.inner.Moves.{stuck, Grows, Rest, Goes, Went, MetRound, Closed}
+use Rattle.laying.specs.declared.Clash.{Clash}
+use Rattle.laying.specs.inner.Moves.{Grows, Went, MetRound, Closed}
 use Rattle.laying.proofs.Counts.{eq_or_lt}
 use Rattle.laying.proofs.Resting.{rest_refl, rest_trans}
 use Rattle.laying.proofs.Flagged.{met_still}
-use Rattle.laying.proofs.Stepping.{tail_le}
 
 -- ---- parts
 
-pub grows_refl : {span : ℕ} (xs : List ℕ) (t : ℕ) → Grows span xs xs t t
+grows_refl : {span : ℕ} (xs : List ℕ) (t : ℕ) → Grows span xs xs t t
 grows_refl xs t = record { more = omega arith; kept = λ i h. refl; still = λ q h m e. m e; words = λ c h m. record { first = refl; second = refl } }
 
 grows_trans : {span : ℕ} {xs ys zs : List ℕ} {a b c : ℕ} → Grows span xs ys a b → Grows span ys zs b c → Grows span xs zs a c
@@ -30,27 +31,26 @@ grows_trans g h = record {
       record { first = q.first ∙ p.first; second = q.second ∙ p.second };
 }
 
--- nothing was to be done
-pub went_none : {span : ℕ} {cells : List ℕ} {n seed : ℕ} {xs : List ℕ} {t : ℕ} (D : List ℕ → Type 0) → Given span cells n → State span cells n seed xs t → D xs → Went span cells n seed xs xs t t D
-went_none {xs = xs} {t} D g s d = record {
-  rest = rest_refl xs;
-  goes = λ _. record { state = s; grows = grows_refl xs t; done = d };
-  ends = λ h. absurd (omega (arith, tail_le s.cover, g.few, g.most));
-}
+module _ {span : ℕ} {cells : List ℕ} {n seed : ℕ} where
+  -- nothing was to be done
+  pub went_none : {xs : List ℕ} {t : ℕ} (D : ℕ → List ℕ → Type 0) → State span cells n seed xs t → D t xs → Went span cells n seed xs xs t (Ok t) D
+  went_none {xs} {t} D s d = record { rest = rest_refl xs; ended = record { state = s; grows = grows_refl xs t; done = d } }
 
--- a later part that is stuck makes the whole so
-pub went_stuck : {span : ℕ} {cells : List ℕ} {n seed : ℕ} {xs ys zs : List ℕ} {a b r : ℕ} {D : List ℕ → Type 0} (E : List ℕ → Type 0) → Rest span cells n seed xs ys → Went span cells n seed ys zs b r D → stuck ≤ r → Went span cells n seed xs zs a r E
-went_stuck E s w h = record { rest = rest_trans s w.rest; goes = λ l. absurd (omega arith); ends = w.ends }
+  -- what is done tells more
+  pub went_so : {xs ys : List ℕ} {a b : ℕ} {D : ℕ → List ℕ → Type 0} (E : ℕ → List ℕ → Type 0) → Went span cells n seed xs ys a (Ok b) D → E b ys → Went span cells n seed xs ys a (Ok b) E
+  went_so E w e = record { rest = w.rest; ended = record { state = w.ended.state; grows = w.ended.grows; done = e } }
 
--- the whole, where it went on
-pub went_whole : {span : ℕ} {cells : List ℕ} {n seed : ℕ} {xs ys : List ℕ} {a r : ℕ} {D : List ℕ → Type 0} (E : List ℕ → Type 0) → Rest span cells n seed xs ys → Goes span cells n seed xs ys a r D → r < stuck → E ys → Went span cells n seed xs ys a r E
-went_whole E s g l e = record { rest = s; goes = λ _. record { state = g.state; grows = g.grows; done = e }; ends = λ h. absurd (omega arith) }
+  module _ {xs ys zs : List ℕ} {a b : ℕ} {D E : ℕ → List ℕ → Type 0} (F : ℕ → List ℕ → Type 0) (v : Went span cells n seed xs ys a (Ok b) D) where
+    -- two parts, one after the other
+    pub went_next : {r : ℕ} → Went span cells n seed ys zs b (Ok r) E → (Grows span ys zs b r → D b ys → E r zs → F r zs) → Went span cells n seed xs zs a (Ok r) F
+    went_next w h = record {
+      rest = rest_trans v.rest w.rest;
+      ended = record { state = w.ended.state; grows = grows_trans v.ended.grows w.ended.grows; done = h w.ended.grows v.ended.done w.ended.done };
+    }
 
--- two parts, one after the other
-pub goes_on : {span : ℕ} {cells : List ℕ} {n seed : ℕ} {xs ys zs : List ℕ} {a b r : ℕ} {D E : List ℕ → Type 0} (F : List ℕ → Type 0) → Goes span cells n seed xs ys a b D → Went span cells n seed ys zs b r E → r < stuck → (Grows span ys zs b r → D ys → E zs → F zs) → Goes span cells n seed xs zs a r F
-goes_on F g w l h =
-    let k = w.goes l in
-    record { state = k.state; grows = grows_trans g.grows k.grows; done = h k.grows g.done k.done }
+    -- a later part that is stuck makes the whole so
+    pub went_stuck : {c : Clash} → Went span cells n seed ys zs b (Err c) E → Went span cells n seed xs zs a (Err c) F
+    went_stuck w = record { rest = rest_trans v.rest w.rest; ended = w.ended }
 
 -- ---- a run
 

@@ -1,17 +1,16 @@
 -- Words given to corners: a corner that is told has its words afterwards or had others, and two corners are told one after the other.
 -- Assumes nothing.
 use mathlib.Core.Path.{◌≡◌, refl, sym, ap, ◌∙◌}
-use mathlib.Core.Logic.{◌≢◌, inl, inr}
+use mathlib.Core.Logic.{◌≢◌, inr}
 use mathlib.Core.Bool.{Bool, true, false, false≢true}
 use mathlib.Core.List.{List}
-use Prim.Native.Nat.{ℕ, ◌+◌, ◌*◌, ◌/◌, ◌≤◌, ◌<◌}
+use Prim.Native.Nat.{ℕ, ◌+◌, ◌*◌, ◌≤◌, ◌<◌}
 use native.Mathlib.Decide.{ℕ_discrete}
 use native.Mathlib.Omega.{arith}
 use lib.ListN.{length, get_or, set, length-set}
 use lib.Seq.{get_or-set_same, get_or-set_other}
-use Rattle.cells.specs.Cells.{cell}
-use Rattle.laying.specs.inner.Layout.{first_word, second_word, side_start, side_end}
-use Rattle.laying.specs.inner.Settling.{Bears, Settled, Differs, Placed, Ends, EndsAt, Spread, SpreadAt}
+use Rattle.laying.specs.inner.Layout.{first_word, second_word}
+use Rattle.laying.specs.inner.Settling.{Bears, Settled, Differs, Placed}
 use Rattle.laying.specs.inner.Settling.Settled.{fresh, same, other}
 
 pub skip : (l : List ℕ) (i a j : ℕ) → j ≢ i → get_or (set l i a) j 0 ≡ get_or l j 0
@@ -58,19 +57,6 @@ wrote_keeps {span} {xs} {ys} {c} {x} {y} w h k l m = go (ℕ_discrete k c)
         rw e (record { first = w.bears.first ∙ sym o.first; second = w.bears.second ∙ sym o.second })
     go (no n) = wrote_others w h k l n
 
--- the first of two has other words
-pub placed_first : {span : ℕ} {xs ys : List ℕ} {c d xc yc xd yd : ℕ} {r : Bool} → Settled span xs ys c xc yc r → r ≡ false → Placed span xs ys c d xc yc xd yd false
-placed_first s z =
-    let d = differs s z in
-    rw d.0 (record {
-      len = refl;
-      low = λ k h. refl;
-      high = λ k h. refl;
-      others = λ k h a b. record { first = refl; second = refl };
-      good = λ t. absurd (false≢true t);
-      bad = λ _. inl d.1;
-    })
-
 module _ {span : ℕ} {xs ys zs : List ℕ} {c d xc yc xd yd : ℕ} (w : Wrote span xs ys c xc yc) (cl : c < span) (dl : d < span) (two : c ≢ d) where
   -- the second has other words
   second_differs : (zs ≡ ys) × Differs span ys d xd yd → Placed span xs zs c d xc yc xd yd false
@@ -114,11 +100,3 @@ placed_second {span} {xs} {ys} {zs} {c} {d} {xc} {yc} {xd} {yd} {r} {s} a t b l 
     go : {s : Bool} → Wrote span xs ys c xc yc → Settled span ys zs d xd yd s → Placed span xs zs c d xc yc xd yd s
     go {s = true} w b = second_writes w cl dl two (wrote b refl (omega (arith, w.len)) dl)
     go {s = false} w b = second_differs w cl dl two (differs b refl)
-
--- the same of the quad of a side, its corners by other names
-pub spread_at : {span : ℕ} (cells : List ℕ) (g a b c d : ℕ) {xs ys : List ℕ} {r : Bool} → a ≡ side_start cells g → b ≡ side_end cells g → c ≡ cell 4 cells (g / 4) (g + 2) → d ≡ cell 4 cells (g / 4) (g + 3)
-    → Spread span xs ys c d (first_word span xs a) (second_word span xs a) (first_word span xs b) (second_word span xs b) r → SpreadAt span cells g xs ys r
-spread_at cells g a b c d ea eb ec ed p = rw (← ea, ← eb, ← ec, ← ed) p
-
-pub ends_at : (span : ℕ) (cells : List ℕ) (g a b : ℕ) (xs : List ℕ) → a ≡ side_start cells g → b ≡ side_end cells g → EndsAt span cells xs g → Ends (first_word span xs a) (second_word span xs a) (first_word span xs b) (second_word span xs b)
-ends_at span cells g a b xs ea eb p = rw (ea, eb) p

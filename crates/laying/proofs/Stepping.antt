@@ -4,10 +4,11 @@ use mathlib.Core.Path.{◌≡◌, sym, ap, ◌∙◌}
 use mathlib.Core.Logic.{◌≢◌, ⊎_elim}
 use mathlib.Core.Bool.{Bool, true, false}
 use mathlib.Core.List.{List}
-use Prim.Native.Nat.{ℕ, ◌+◌, ◌*◌, ◌-◌, ◌/◌, ◌≤◌, ◌<◌}
+use Prim.Native.Nat.{ℕ, ◌+◌, ◌*◌, ◌/◌, ◌≤◌, ◌<◌}
 use native.Mathlib.Decide.{ℕ_discrete}
 use native.Mathlib.Omega.{arith}
 use lib.ListN.{length, get_or, set, length-set}
+use Rattle.std.specs.Prelude.{Ok, Err}
 use Rattle.cells.specs.Cells.{cell}
 use Rattle.cells.specs.Kind.{Pair, ◌⊖◌, Reached, Fits}
 use Rattle.cells.specs.Kind.Chain.{on}
@@ -16,7 +17,7 @@ use Rattle.cells.proofs.Squares.{step_back, square_forced}
 use Rattle.laying.specs.inner.Layout.{Near, mark, queued, first_word, second_word, pair_of, side_start, side_end, Across, Given}
 use Rattle.laying.specs.inner.Invariant.{Waits, Cornered, Cover, Meets, State}
 use Rattle.laying.specs.inner.Settling.{Bears, Differs, Good, Placed, EndsAt, SpreadAt}
-use Rattle.laying.specs.inner.Moves.{stuck, Grows, Rest, Went}
+use Rattle.laying.specs.inner.Moves.{Grows, Rest, Went}
 use Rattle.laying.proofs.Reading.{same_word}
 use Rattle.laying.proofs.Around.{each, SquareFrom, square_from}
 use Rattle.laying.proofs.Facing.{corner_below, across_next}
@@ -239,22 +240,18 @@ module _ (span : ℕ) (cells : List ℕ) (n seed : ℕ) (xs : List ℕ) (tail e 
         flags = flags_still given xs zs high still st.flags;
       }
 
-    fine : r ≡ true → Went span cells n seed xs zs tail (tail + 1) (Meets cells e g)
-    fine t = record {
-      rest = step_rest;
-      goes = λ _. record { state = step_state (placed.good t); grows = step_grows (placed.good t); done = λ o z. omega (arith, one, z) };
-      ends = λ h. absurd (omega (arith, few, given.most));
-    }
+    fine : r ≡ true → Went span cells n seed xs zs tail (Ok (tail + 1)) (λ _. Meets cells e g)
+    fine t = record { rest = step_rest; ended = record { state = step_state (placed.good t); grows = step_grows (placed.good t); done = λ o z. omega (arith, one, z) } }
 
-    refused : r ≡ false → Went span cells n seed xs zs tail (stuck + (tail + 1)) (Meets cells e g)
-    refused z =
-        let t : (stuck + (tail + 1)) - stuck ≡ tail + 1 = omega arith in
-        record { rest = step_rest; goes = λ h. absurd (omega arith); ends = λ _. rw t (record { cover = step_cover; none = refute z }) }
+    refused : r ≡ false → Went span cells n seed xs zs tail (Err (record { queued = tail + 1 })) (λ _. Meets cells e g)
+    refused z = record { rest = step_rest; ended = record { cover = step_cover; none = refute z } }
 
-  pub went_on : (ys : List ℕ) (r : Bool) → SpreadAt span cells g xs ys r → mark xs (g / 4) ≡ 0 → 4 * span ≤ length xs → r ≡ true → Went span cells n seed xs (set (set ys (g / 4) 1) (span + tail) (g / 4)) tail (tail + 1) (Meets cells e g)
-  unfolding zs
-  went_on ys r p h l t = fine ys r _ _ _ _ (forced_square _ _ _ _ step_ends unit) (far_near _ _ _ _ step_ends unit tail near_a.0 near_a.1 near_b.0 near_b.1) p h l t
+  -- the walk goes on, or is stuck
+  module _ (ys : List ℕ) (r : Bool) (p : SpreadAt span cells g xs ys r) (h : mark xs (g / 4) ≡ 0) (l : 4 * span ≤ length xs) where
+    pub went_on : r ≡ true → Went span cells n seed xs (set (set ys (g / 4) 1) (span + tail) (g / 4)) tail (Ok (tail + 1)) (λ _. Meets cells e g)
+    unfolding zs
+    went_on t = fine ys r _ _ _ _ (forced_square _ _ _ _ step_ends unit) (far_near _ _ _ _ step_ends unit tail near_a.0 near_a.1 near_b.0 near_b.1) p h l t
 
-  pub went_wrong : (ys : List ℕ) (r : Bool) → SpreadAt span cells g xs ys r → mark xs (g / 4) ≡ 0 → 4 * span ≤ length xs → r ≡ false → Went span cells n seed xs (set (set ys (g / 4) 1) (span + tail) (g / 4)) tail (stuck + (tail + 1)) (Meets cells e g)
-  unfolding zs
-  went_wrong ys r p h l z = refused ys r _ _ _ _ (forced_square _ _ _ _ step_ends unit) (far_near _ _ _ _ step_ends unit tail near_a.0 near_a.1 near_b.0 near_b.1) p h l z
+    pub went_wrong : r ≡ false → Went span cells n seed xs (set (set ys (g / 4) 1) (span + tail) (g / 4)) tail (Err (record { queued = tail + 1 })) (λ _. Meets cells e g)
+    unfolding zs
+    went_wrong z = refused ys r _ _ _ _ (forced_square _ _ _ _ step_ends unit) (far_near _ _ _ _ step_ends unit tail near_a.0 near_a.1 near_b.0 near_b.1) p h l z

@@ -1,5 +1,5 @@
 -- Taking marks and words away: quad by quad along the queue, until the workspace is blank. Assumes nothing.
-use mathlib.Core.Path.{◌≡◌, refl, sym, ap, ◌∙◌}
+use mathlib.Core.Path.{◌≡◌, sym, ap, ◌∙◌}
 use mathlib.Core.List.{List}
 use Prim.Native.Nat.{ℕ, ◌+◌, ◌*◌, ◌%◌, ◌≤◌, ◌<◌}
 use native.Mathlib.Decide.{ℕ_discrete}
@@ -31,24 +31,6 @@ pub record Bared (span : ℕ) (cells xs ys : List ℕ) (q k : ℕ) : Type 0 wher
   pub zero : (i : ℕ) → get_or xs i 0 ≡ 0 → get_or ys i 0 ≡ 0
   pub gone : (j : ℕ) → j < k → Bears span ys (cell 4 cells q j) 0 0
 
-pub bared_none : {span : ℕ} (cells xs : List ℕ) (q : ℕ) → Bared span cells xs xs q 0
-bared_none cells xs q = record { len = refl; low = λ i h. refl; high = λ i h. refl; zero = λ i z. z; gone = λ j h. absurd (omega arith) }
-
-pub bared_more : {span : ℕ} {cells xs ys : List ℕ} {q k : ℕ} (c : ℕ) → Bared span cells xs ys q k → 4 * span ≤ length xs → c < span → c ≡ cell 4 cells q k → Bared span cells xs (set (set ys (2 * span + c) 0) (3 * span + c) 0) q (k + 1)
-bared_more {span} {cells} {xs} {ys} {q} {k} c b h l e =
-    let h1 : 2 * span + c < length ys = omega (arith, b.len) in
-    let h2 : 3 * span + c < length (set ys (2 * span + c) 0) = simp length-set (omega (arith, b.len)) in
-    let z : (i : ℕ) → get_or ys i 0 ≡ 0 → get_or (set (set ys (2 * span + c) 0) (3 * span + c) 0) i 0 ≡ 0 = λ i w. zero_set (set ys (2 * span + c) 0) (3 * span + c) i h2 (zero_set ys (2 * span + c) i h1 w) in
-    record {
-      len = simp length-set b.len;
-      low = λ i w. skip (set ys (2 * span + c) 0) (3 * span + c) 0 i (omega arith) ∙ skip ys (2 * span + c) 0 i (omega arith) ∙ b.low i w;
-      high = λ i w. skip (set ys (2 * span + c) 0) (3 * span + c) 0 i (omega arith) ∙ skip ys (2 * span + c) 0 i (omega arith) ∙ b.high i w;
-      zero = λ i w. z i (b.zero i w);
-      gone = eq_or_lt (λ (j : ℕ). Bears span (set (set ys (2 * span + c) 0) (3 * span + c) 0) (cell 4 cells q j) 0 0) k
-          (rw (← e) (record { first = skip (set ys (2 * span + c) 0) (3 * span + c) 0 (2 * span + c) (omega arith) ∙ put ys (2 * span + c) 0 h1; second = put (set ys (2 * span + c) 0) (3 * span + c) 0 h2 }))
-          (λ j w. record { first = z (2 * span + cell 4 cells q j) (b.gone j w).first; second = z (3 * span + cell 4 cells q j) (b.gone j w).second });
-    }
-
 -- with the mark taken away first
 pub wiped : {span : ℕ} {cells xs ys : List ℕ} {n q : ℕ} → Bared span cells (set xs q 0) ys q 4 → q < n → n ≤ span → 4 * span ≤ length xs → Wiped span cells n xs ys q
 wiped {span} {cells} {xs} {ys} {n} {q} b l f h =
@@ -74,9 +56,6 @@ pub record Clearing (span : ℕ) (cells : List ℕ) (n : ℕ) (xs ys : List ℕ)
   pub gone : (j : ℕ) → j < i → mark ys (queued span xs j) ≡ 0
   pub first : (j : ℕ) → j < i → (k : ℕ) → first_word span ys (cell 4 cells (queued span xs j) k) ≡ 0
   pub second : (j : ℕ) → j < i → (k : ℕ) → second_word span ys (cell 4 cells (queued span xs j) k) ≡ 0
-
-pub clearing_none : {span : ℕ} (cells : List ℕ) {n : ℕ} (xs : List ℕ) → Clearing span cells n xs xs 0
-clearing_none cells xs = record { len = refl; middle = λ k a b. refl; high = λ k h. refl; zero = λ k z. z; gone = λ j h. absurd (omega arith); first = λ j h. absurd (omega arith); second = λ j h. absurd (omega arith) }
 
 pub clearing_more : {span : ℕ} {cells : List ℕ} {n : ℕ} {xs ys zs : List ℕ} {i : ℕ} (q : ℕ) → Clearing span cells n xs ys i → Wiped span cells n ys zs q → n ≤ span → i < span → q ≡ queued span ys i → Clearing span cells n xs zs (i + 1)
 clearing_more {span} {cells} {n} {xs} {ys} {zs} {i} q c w h l e =

@@ -6,9 +6,8 @@ pub mod inner;
 mod settle;
 mod steps;
 
-// How a walk ended, and how many quads it queued.
-#[derive(Drop)]
-pub enum Walked {
-    Laid(usize),
-    Clash(usize),
+// There is no labelling; so many quads were queued until that was shown.
+#[derive(Clone, Copy, Debug, PartialEq, Eq)]
+pub struct Clash {
+    pub queued: usize,
 }

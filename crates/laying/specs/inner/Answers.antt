@@ -1,10 +1,9 @@
 -- What the walk of a group answers, and what clearing leaves.
-use Rattle.std.specs.Prelude.{◌≡◌, ◌≢◌, List, ℕ, ◌*◌, ◌≤◌, ◌<◌, length, get_or}
+use Rattle.std.specs.Prelude.{◌≡◌, ◌≢◌, List, ℕ, ◌*◌, ◌≤◌, ◌<◌, length, get_or, Result, MatchResult}
 use Rattle.cells.specs.Cells.{cell}
 use Rattle.cells.specs.Kind.{Reached, ReachedCorner, Fits}
 use Rattle.cells.specs.Quads.{quads}
-use Rattle.laying.specs.declared.Walked.{Walked}
-use Rattle.laying.specs.declared.Walked.TheVariants.{Laid, Clash}
+use Rattle.laying.specs.declared.Clash.{Clash}
 use Rattle.laying.specs.inner.Layout.{Near, mark, queued, first_word, second_word, pair_of, Blank}
 use Rattle.laying.specs.inner.Invariant.{Cover}
 use Rattle.laying.specs.inner.Moves.{Rest, Stuck}
@@ -22,11 +21,11 @@ pub record Fitted (span : ℕ) (cells : List ℕ) (n seed : ℕ) (w : List ℕ) 
   pub near : (c : ℕ) → ReachedCorner quads cells seed c → Near t (first_word span w c) × Near t (second_word span w c)
   pub cover : Cover span cells n w t
 
--- Laid: the words are the labelling. Clash: there is none. In both, t quads are in the queue, and of the rest of the workspace only flags
--- of reached sides' runs may have changed.
-pub data Labelled (span : ℕ) (cells : List ℕ) (n seed : ℕ) (xs ys : List ℕ) : Walked → Type 0 where
-  laid : {t : ℕ} → Rest span cells n seed xs ys → Fitted span cells n seed ys t → Labelled span cells n seed xs ys (Laid t)
-  clash : {t : ℕ} → Rest span cells n seed xs ys → Stuck span cells n seed ys t → Labelled span cells n seed xs ys (Clash t)
+-- Ok: the words are the labelling. Err: there is none. In both, so many quads are in the queue, and of the rest of the workspace only
+-- flags of reached sides' runs may have changed.
+pub record Labelled (span : ℕ) (cells : List ℕ) (n seed : ℕ) (xs ys : List ℕ) (r : Result ℕ Clash) : Type 0 where
+  pub rest : Rest span cells n seed xs ys
+  pub ended : MatchResult r (λ t. Fitted span cells n seed ys t) (λ c. Stuck span cells n seed ys c.queued)
 
 -- the mark of q, and the words of its corners, are taken away, and no word but 0 was written
 pub record Wiped (span : ℕ) (cells : List ℕ) (n : ℕ) (xs ys : List ℕ) (q : ℕ) : Type 0 where

@@ -1,14 +1,12 @@
--- What a part of the walk leaves. It answers the queue's length, or that length and `stuck` more where no assignment fits.
-use Rattle.std.specs.Prelude.{◌≡◌, ◌≢◌, List, ℕ, ◌+◌, ◌*◌, ◌-◌, ◌/◌, ◌≤◌, ◌<◌, length, get_or}
+-- What a part of the walk leaves. It answers the queue's length, or a clash with that length where no assignment fits.
+use Rattle.std.specs.Prelude.{◌≡◌, ◌≢◌, List, ℕ, ◌+◌, ◌*◌, ◌/◌, ◌≤◌, ◌<◌, length, get_or, Result, MatchResult}
 use Rattle.cells.specs.Cells.{cell}
 use Rattle.cells.specs.Kind.{Pair, Reached, Fits}
 use Rattle.cells.specs.Quads.{quads}
+use Rattle.laying.specs.declared.Clash.{Clash}
 use Rattle.laying.specs.inner.Layout.{centre, mark, queued, first_word, second_word, run_of, flags_at}
 use Rattle.laying.specs.inner.Invariant.{Cover, Met, State}
 use Rattle.laying.specs.inner.Settling.{Bears}
-
-abbrev pub stuck : ℕ
-stuck = 8192
 
 -- more is marked, queued and given words, and nothing less
 pub record Grows (span : ℕ) (xs ys : List ℕ) (tail r : ℕ) : Type 0 where
@@ -32,10 +30,10 @@ pub record Goes (span : ℕ) (cells : List ℕ) (n seed : ℕ) (xs ys : List ℕ
   pub grows : Grows span xs ys tail r
   pub done : D ys
 
-pub record Went (span : ℕ) (cells : List ℕ) (n seed : ℕ) (xs ys : List ℕ) (tail r : ℕ) (D : List ℕ → Type 0) : Type 0 where
+-- what a part that answers r leaves: it goes on with D done, or is stuck
+pub record Went (span : ℕ) (cells : List ℕ) (n seed : ℕ) (xs ys : List ℕ) (tail : ℕ) (r : Result ℕ Clash) (D : ℕ → List ℕ → Type 0) : Type 0 where
   pub rest : Rest span cells n seed xs ys
-  pub goes : r < stuck → Goes span cells n seed xs ys tail r D
-  pub ends : stuck ≤ r → Stuck span cells n seed ys (r - stuck)
+  pub ended : MatchResult r (λ t. Goes span cells n seed xs ys tail t (D t)) (λ c. Stuck span cells n seed ys c.queued)
 
 -- all that is across from the first k sides of q is marked
 abbrev pub MetRound : List ℕ → ℕ → ℕ → ℕ → List ℕ → Type 0

@@ -1,10 +1,10 @@
 -- `run`: one quad of the queue after the other, until there is none left.
-use Prim.Native.Nat.{◌-◌, ◌<◌}
-use Rattle.laying.specs.inner.Moves.{stuck, Rest, Goes, Closed}
+use Rattle.std.proofs.Common.{◌-◌, Ok}
+use Rattle.laying.specs.inner.Moves.{Went, Closed}
 use Rattle.laying.proofs.steps.run.Given as goal
 
 abbrev pub invariant-loop-head : goal.invariant-loop-head
-invariant-loop-head l = (l.tail < stuck) × Rest l.span l.quads l.n l.seed l.initial.work l.work × Goes l.span l.quads l.n l.seed l.initial.work l.work 1 l.tail (Closed l.span l.quads l.n l.head)
+invariant-loop-head l = Went l.sheet.span l.sheet.quads.now l.sheet.count l.seed l.initial.work l.work 1 (Ok l.tail) (λ _. Closed l.sheet.span l.sheet.quads.now l.sheet.count l.head)
 
 abbrev pub decreases-loop-head : goal.decreases-loop-head
-decreases-loop-head l = l.n - l.head
+decreases-loop-head l = l.sheet.count - l.head

@@ -1,12 +1,8 @@
 -- `scan`: from the first place of the run on each side is met, until a key differs.
-use Prim.Native.Nat.{◌*◌, ◌-◌, ◌<◌, ◌≤◌}
-use Rattle.laying.specs.inner.Layout.{run_of}
-use Rattle.laying.specs.inner.Moves.{stuck, Rest, Goes}
+use Rattle.std.proofs.Common.{Ok}
+use Rattle.laying.specs.inner.Moves.{Went}
 use Rattle.laying.proofs.Parts.{Ran}
 use Rattle.laying.proofs.steps.scan.Given as goal
 
 abbrev pub invariant-loop-i : goal.invariant-loop-i
-invariant-loop-i l = (run_of l.span l.n l.initial.work l.e ≤ l.i) × (l.t < stuck) × Rest l.span l.quads l.n l.seed l.initial.work l.work × Goes l.span l.quads l.n l.seed l.initial.work l.work l.tail l.t (Ran l.span l.n l.quads l.initial.work l.e l.i)
-
-abbrev pub decreases-loop-i : goal.decreases-loop-i
-decreases-loop-i l = 4 * l.n - l.i
+invariant-loop-i l = Went l.sheet.span l.sheet.quads.now l.sheet.count l.seed l.initial.work l.work l.tail (Ok l.t) (λ _. Ran l.sheet.span l.sheet.count l.sheet.quads.now l.initial.work l.e l.i)

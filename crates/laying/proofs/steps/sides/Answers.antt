@@ -1,45 +1,31 @@
 -- `sides`: one side after the other.
-use mathlib.Core.Path.{◌≡◌, refl}
-use Prim.Native.Nat.{◌+◌, ◌*◌, ◌/◌, ◌<◌}
-use native.Mathlib.Omega.{arith}
+use Rattle.std.proofs.Common.{◌≡◌, refl, ◌+◌, ◌*◌, ◌/◌, arith}
+use Rattle.std.proofs.lemmas.Result.{err_from_is_err_and}
 use Rattle.laying.specs.inner.Moves.{MetRound}
-use Rattle.laying.proofs.Resting.{rest_refl, rest_trans, table_rest}
-use Rattle.laying.proofs.Stepping.{tail_le}
-use Rattle.laying.proofs.Parts.{grows_refl, went_stuck, went_whole, goes_on, round_next}
+use Rattle.laying.proofs.Resting.{table_rest}
+use Rattle.laying.proofs.Parts.{went_stuck, went_next, round_next}
 use Rattle.laying.proofs.steps.sides.Goals as goal
 
-pub loop-k-init : goal.loop-k-init
-loop-k-init c = (omega arith, omega (arith, c.requires.given.few, c.requires.given.most, tail_le c.requires.state.cover), rest_refl _, record { state = c.requires.state; grows = grows_refl _ _; done = λ j l. absurd (omega arith) })
+pub scan_once-requires-clause-e_bound : goal.scan_once-requires-clause-e_bound
+scan_once-requires-clause-e_bound c = (omega (arith, c.requires.q_lt_n.0), table_rest c.requires.q_lt_n.1 c.loop-k.invariant.rest)
 
-pub scan_once-t-requires : goal.scan_once-t-requires
-scan_once-t-requires c =
-    let l = c.loop-k in
-    let h : l.k < 4 = c.loop-k-test.true in
-    let e : (4 * c.args.q + l.k) / 4 ≡ c.args.q = omega arith in
-    record { given = c.requires.given; e_bound = (omega (arith, c.requires.q_lt_n.0), table_rest c.requires.q_lt_n.1 l.invariant.2); state = l.invariant.3.state; marked = rw e (l.invariant.3.grows.still c.args.q (omega (arith, c.requires.given.few, c.requires.q_lt_n.0)) c.requires.marked) }
+pub scan_once-requires-clause-marked : goal.scan_once-requires-clause-marked
+scan_once-requires-clause-marked c =
+    let e : (4 * c.args.q + c.loop-k.k) / 4 ≡ c.args.q = omega arith in
+    rw e (c.loop-k.invariant.ended.grows.still c.args.q (omega (arith, c.args.sheet.given.few, c.requires.q_lt_n.0)) c.requires.marked)
 
-pub shape_of-work-then-t-ge-STUCK : goal.shape_of-work-then-t-ge-STUCK
-shape_of-work-then-t-ge-STUCK c = (rest_trans c.loop-k.invariant.2 c.scan_once-t.ensures.rest).len
-
-pub returns-then-t-ge-STUCK : goal.returns-then-t-ge-STUCK
-returns-then-t-ge-STUCK c = went_stuck (MetRound c.args.quads.now c.args.n c.args.q 4) c.loop-k.invariant.2 c.scan_once-t.ensures c.if-t-ge-STUCK.true
+pub returns-in_err-t : goal.returns-in_err-t
+returns-in_err-t c =
+    let p = err_from_is_err_and c.from_residual.result c.from_residual.ensures.1 in
+    rw (p.1, p.2) (went_stuck (λ _. MetRound c.args.sheet.quads.now c.args.sheet.count c.args.q 4) c.loop-k.invariant c.in_err-t.ensures)
 
 pub loop-k-preserved : goal.loop-k-preserved
 loop-k-preserved c =
     let l = c.loop-k in
-    let h : l.k < 4 = c.loop-k-test.true in (
-      omega arith,
-      c.if-t-ge-STUCK.false,
-      rest_trans l.invariant.2 c.scan_once-t.ensures.rest,
-      goes_on (MetRound c.args.quads.now c.args.n c.args.q (l.k + 1)) l.invariant.3 c.scan_once-t.ensures c.if-t-ge-STUCK.false
-          (λ w d m. round_next c.requires.given c.args.q l.k (4 * c.args.q + l.k) refl w d m),
-    )
-
-pub shape_of-work : goal.shape_of-work
-shape_of-work c = c.loop-k.invariant.2.len
+    let s = c.args.sheet in
+    went_next (λ _. MetRound s.quads.now s.count c.args.q (l.k + 1)) l.invariant c.in_ok-t.ensures (λ w d m. round_next s.given c.args.q l.k (4 * c.args.q + l.k) refl w d m)
 
 pub returns : goal.returns
 returns c =
-    let l = c.loop-k in
-    let e : l.k ≡ 4 = omega (arith, l.invariant.0) in
-    went_whole (MetRound c.args.quads.now c.args.n c.args.q 4) l.invariant.2 l.invariant.3 l.invariant.1 (rw e at l.invariant.3.done)
+    let e : c.loop-k.k ≡ 4 = omega arith in
+    rw e at c.loop-k.invariant
