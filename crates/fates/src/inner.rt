@@ -1,7 +1,6 @@
 // What becomes of the groups, without a call's checks. A `requires` here is what the rows of the calls above have let through (1, 2, 5, 6
 // and 8), or what `compute` has left.
 ghost use Rattle.std.specs.Prelude.{◌≡◌, ◌+◌, ◌*◌, ◌≤◌, ◌<◌, max, length};
-ghost use Rattle.laying.specs.inner.Layout.{Given};
 ghost use Rattle.fates.specs.inner.Computed.{Computed};
 ghost use Rattle.fates.specs.inner.FateWords.{fate_at};
 ghost use Rattle.fates.specs.inner.Index.{runs_at};
@@ -13,6 +12,7 @@ use crate::lone::list_lone;
 use crate::prepare::prepare;
 use crate::{Fate, LabelParams, Run, Runs};
 use laying::inner::layout::{FATES, INDEX, WALKED};
+use laying::inner::sheet::Sheet;
 
 // The words of a region: one for each quad, and for each corner.
 pub fn span_of(quads: usize, corners: usize) -> usize
@@ -22,15 +22,14 @@ pub fn span_of(quads: usize, corners: usize) -> usize
 }
 
 // The groups, their walks, the records of their corners and the fate of each.
-pub fn compute(quads: &[u32], work: &mut [u32], span: usize, n: usize, params: LabelParams)
-    requires given { Given span quads.now n }
-    requires n_in_bounds { 4 * span + 27 * n ≤ length work.old }
-    ensures { Computed span quads.now n params work.old work.new }
+pub fn compute(sheet: Sheet<'_>, work: &mut [u32], params: LabelParams)
+    requires { 4 * sheet.span + 27 * sheet.count ≤ length work.old }
+    ensures { let s = sheet.entry in Computed s.span s.quads.now s.count params work.old work.new }
 {
-    prepare(quads, work, span, n);
-    let all = gather(quads, work, span, n);
-    let m = list_lone(work, span, n, all);
-    judge_groups(work, span, n, all, m, params);
+    prepare(sheet, work);
+    let all = gather(sheet, work);
+    let m = list_lone(work, sheet.span, sheet.count, all);
+    judge_groups(work, sheet.span, sheet.count, all, m, params);
 }
 
 // What became of the group of quad s, in the workspace that `compute` has left.

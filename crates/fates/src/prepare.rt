@@ -5,24 +5,25 @@ ghost use Rattle.std.specs.Prelude.{◌≡◌, ℕ, ◌+◌, ◌*◌, ◌-◌, �
 ghost use Rattle.mesh.specs.Lists.{most_corners};
 ghost use Rattle.words.specs.inner.Regions.{Filled};
 ghost use Rattle.words.specs.Sorting.{equal};
-ghost use Rattle.laying.specs.inner.Layout.{key_at, Given};
+ghost use Rattle.laying.specs.inner.Layout.{key_at};
 ghost use Rattle.fates.specs.inner.Fates.{groups_at};
 ghost use Rattle.fates.specs.inner.Runs.{Rising, Told, Started};
 ghost use Rattle.fates.specs.inner.Prepared.{Sided, Ready};
 
 use cells::inner::groups;
 use laying::inner::layout::{FLAGS, GROUPS, RUNS};
+use laying::inner::sheet::Sheet;
 
 // The groups, with no quad marked, and the ordered table after them. Their part of the workspace begins inside the second words, so
 // that the table stands where the walk reads it.
-fn list_groups(quads: &[u32], work: &mut [u32], span: usize, n: usize)
-    requires given { Given span quads.now n }
-    requires n_in_bounds { 4 * span + 26 * n ≤ length work.old }
-    ensures { Sided span quads.now n work.old work.new }
+fn list_groups(sheet: Sheet<'_>, work: &mut [u32])
+    requires { 4 * sheet.span + 26 * sheet.count ≤ length work.old }
+    ensures { let s = sheet.entry in Sided s.span s.quads.now s.count work.old work.new }
 {
-    let at = 4 * span - 2 * n;
+    let n = sheet.count;
+    let at = 4 * sheet.span - 2 * n;
     work[at..at + n].fill(0);
-    groups(quads, 4, n, &mut work[at..at + 18 * n]);
+    groups(sheet.quads, 4, n, &mut work[at..at + 18 * n]);
 }
 
 // From right before the table to their own place.
@@ -81,15 +82,17 @@ fn count_members(work: &mut [u32], at: usize, n: usize)
 }
 
 // The front is made zero last, since the groups were listed at its end.
-pub(crate) fn prepare(quads: &[u32], work: &mut [u32], span: usize, n: usize)
-    requires given { Given span quads.now n }
-    requires n_in_bounds { 4 * span + 26 * n ≤ length work.old }
-    ensures { Ready span quads.now n work.new }
+pub(crate) fn prepare(sheet: Sheet<'_>, work: &mut [u32])
+    requires { 4 * sheet.span + 26 * sheet.count ≤ length work.old }
+    ensures { let s = sheet.entry in Ready s.span s.quads.now s.count work.new }
 {
-    list_groups(quads, work, span, n);
-    tell_runs(work, span, n);
-    move_groups(work, span, n);
-    count_members(work, 4 * span + GROUPS * n, n);
-    work[..4 * span].fill(0);
-    work[4 * span + FLAGS * n..4 * span + FLAGS * n + 4 * n].fill(0);
+    let n = sheet.count;
+    let table = 4 * sheet.span;
+    let flags = table + FLAGS * n;
+    list_groups(sheet, work);
+    tell_runs(work, sheet.span, n);
+    move_groups(work, sheet.span, n);
+    count_members(work, table + GROUPS * n, n);
+    work[..table].fill(0);
+    work[flags..flags + 4 * n].fill(0);
 }

@@ -10,7 +10,7 @@ any : LabelParams
 any = record { quads = 0; corners = 0 }
 
 pub loop-seed-init : goal.loop-seed-init
-loop-seed-init c = (refl, λ params. underway_start params c.requires.given.1 c.requires.ready)
+loop-seed-init c = (refl, λ params. underway_start params c.requires.n_in_bounds c.requires.ready)
 
 pub gather_seed-m-requires-clause-begun : goal.gather_seed-m-requires-clause-begun
 gather_seed-m-requires-clause-begun c = record { number = _; params = any; underway = c.loop-seed.invariant.1 any }
@@ -23,5 +23,5 @@ loop-seed-preserved c =
 pub returns : goal.returns
 returns c =
     let l = c.loop-seed in
-    let e : l.seed ≡ c.args.n = omega arith in
+    let e : l.seed ≡ c.args.sheet.count = omega arith in
     record { len = l.invariant.0; numbers = (l.invariant.1 any).numbers; gathered = λ params. rw e at (l.invariant.1 params).gathered }

@@ -2,5 +2,5 @@
 use Rattle.fates.proofs.Fated.{underway_within}
 use Rattle.fates.proofs.gather.gather_seed.Goals as goal
 
-pub returns-then-work-span : goal.returns-then-work-span
-returns-then-work-span c = λ number params u. underway_within c.requires.given.0 u c.requires.given.1 c.if-work-span.true
+pub returns-then-work-sheet : goal.returns-then-work-sheet
+returns-then-work-sheet c = λ number params u. underway_within c.args.sheet.given u c.requires.seed_lt_n c.if-work-sheet.true

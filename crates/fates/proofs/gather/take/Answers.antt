@@ -7,5 +7,5 @@ use Rattle.fates.proofs.gather.take.Goals as goal
 
 pub loop-i-preserved : goal.loop-i-preserved
 loop-i-preserved c =
-    let few : c.args.tail ≤ c.args.n = omega (arith, c.requires.seed_lt_n.1) in
-    drained_more c.requires.given.0 c.requires.fitted.cover c.loop-i.invariant few _ c.loop-i-test.true refl c.take_quad-r.ensures
+    let few : c.args.tail ≤ c.args.sheet.count = omega (arith, c.requires.seed_lt_n.1) in
+    drained_more c.args.sheet.given c.requires.fitted.cover c.loop-i.invariant few _ c.loop-i-test.true refl c.take_quad-r.ensures

@@ -5,4 +5,4 @@ use Rattle.fates.proofs.Seating.{sided}
 use Rattle.fates.proofs.prepare.list_groups.Goals as goal
 
 pub returns : goal.returns
-returns c = sided _ _ _ c.requires.given _ _ c.requires.n_in_bounds (filled_zero _ _ _ _ (omega arith) (c.fill.ensures.after (λ y e. e))) _ c.groups.ensures
+returns c = sided _ _ _ c.args.sheet.given _ _ c.requires (filled_zero _ _ _ _ (omega arith) (c.fill.ensures.after (λ y e. e))) _ c.groups.ensures

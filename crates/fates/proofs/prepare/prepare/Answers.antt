@@ -6,7 +6,6 @@ use Rattle.fates.proofs.prepare.prepare.Goals as goal
 
 pub returns : goal.returns
 returns c =
-    let a = c.requires in
-    ready _ _ _ a.given _ _ a.n_in_bounds c.list_groups.ensures _ _ c.tell_runs.ensures c.move_groups.ensures _ _ _ c.count_members.ensures
+    ready _ _ _ c.args.sheet.given _ _ c.requires c.list_groups.ensures _ _ c.tell_runs.ensures c.move_groups.ensures _ _ _ c.count_members.ensures
     (front_zero _ _ _ (omega arith) (c.fill.ensures.after (λ y e. e)))
     (filled_zero _ _ _ _ (omega arith) (c.fill-2.ensures.after (λ y e. e)))
