@@ -21,7 +21,7 @@ use Rattle.laying.proofs.Around.{same_corner}
 use Rattle.laying.proofs.Counts.{eq_or_lt}
 use Rattle.laying.proofs.Facing.{corner_below, reached_below}
 use Rattle.laying.proofs.Wiping.{marks_gone, firsts_gone}
-use Rattle.fates.proofs.Drawing.{drawn_none, drawn_mark, drawn_on}
+use Rattle.fates.proofs.Drawing.{drawn_mark, drawn_on}
 
 -- ---- a quad
 
@@ -30,9 +30,6 @@ pub record Stripped (span : ℕ) (cells : List ℕ) (n seed : ℕ) (xs ys : List
   pub drawn : Drawn span n seed xs ys m r
   pub few : r ≤ m + k
   pub words : (j : ℕ) → j < k → first_word span ys (cell 4 cells q j) ≡ 0
-
-pub stripped_none : {span : ℕ} {cells : List ℕ} {n seed : ℕ} {xs : List ℕ} {m q : ℕ} → Stripped span cells n seed xs xs m m q 0
-stripped_none = record { drawn = drawn_none; few = omega arith; words = λ j h. absurd (omega arith) }
 
 pub stripped_more : {span : ℕ} {cells : List ℕ} {n seed : ℕ} {xs ys zs : List ℕ} {m r s q k : ℕ} (c : ℕ) → Given span cells n → q < n → Stripped span cells n seed xs ys m r q k → Drawn span n seed ys zs r s → s ≤ r + 1 → c ≡ cell 4 cells q k → first_word span zs c ≡ 0
     → Stripped span cells n seed xs zs m s q (k + 1)
@@ -58,9 +55,6 @@ pub record Drained (span : ℕ) (cells : List ℕ) (n seed : ℕ) (xs ys : List 
   pub few : r ≤ m + 4 * i
   pub marks : (j : ℕ) → j < i → mark ys (queued span xs j) ≡ 0
   pub words : (j : ℕ) → j < i → (k : ℕ) → first_word span ys (cell 4 cells (queued span xs j) k) ≡ 0
-
-pub drained_none : {span : ℕ} {cells : List ℕ} {n seed : ℕ} {xs : List ℕ} {m : ℕ} → Drained span cells n seed xs xs m m 0
-drained_none = record { drawn = drawn_none; few = omega arith; marks = λ j h. absurd (omega arith); words = λ j h. absurd (omega arith) }
 
 -- the queue itself stays
 pub queue_kept : {span n seed : ℕ} {xs ys : List ℕ} {m r : ℕ} (i : ℕ) → Drawn span n seed xs ys m r → n ≤ span → i < span → queued span ys i ≡ queued span xs i
@@ -96,25 +90,6 @@ module _ {span : ℕ} {cells : List ℕ} {n seed : ℕ} {xs ys : List ℕ} {m r 
 -- ---- the records of a labelling
 
 module _ {span : ℕ} {cells : List ℕ} {n seed : ℕ} {xs : List ℕ} {t : ℕ} (given : Given span cells n) (f : Fitted span cells n seed xs t) (small : t ≤ n) where
-  pub fitted_worded : Worded span xs
-  fitted_worded = record {
-    first = λ c h. first_at c h (ℕ_discrete (first_word span xs c) 0);
-    second = λ c h. second_at c h (ℕ_discrete (second_word span xs c) 0);
-    none = λ c h z. none_at c h z (ℕ_discrete (second_word span xs c) 0);
-  }
-    where
-      first_at : (c : ℕ) → c < span → Dec (first_word span xs c ≡ 0) → first_word span xs c < 32768
-      first_at c h (yes z) = omega arith
-      first_at c h (no z) = omega (arith, (f.near c (f.only_first c h z)).0.high, given.few, given.most)
-
-      second_at : (c : ℕ) → c < span → Dec (second_word span xs c ≡ 0) → second_word span xs c < 32768
-      second_at c h (yes z) = omega arith
-      second_at c h (no z) = omega (arith, (f.near c (f.only_second c h z)).1.high, given.few, given.most)
-
-      none_at : (c : ℕ) → c < span → first_word span xs c ≡ 0 → Dec (second_word span xs c ≡ 0) → second_word span xs c ≡ 0
-      none_at c h z (yes y) = y
-      none_at c h z (no y) = absurd ((f.words c (f.only_second c h y)).0 z)
-
   -- no more are reached than there may be quads
   near_most : {word : ℕ} → Near t word → Near most_quads word
   near_most h = record { low = omega (arith, h.low, small, given.few, given.most); high = omega (arith, h.high, small, given.few, given.most) }

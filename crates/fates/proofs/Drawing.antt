@@ -13,24 +13,9 @@ use Rattle.words.proofs.Regions.{set_cases}
 use Rattle.laying.specs.inner.Layout.{first_word, second_word}
 use Rattle.laying.specs.inner.Settling.{Bears}
 use Rattle.fates.specs.inner.Fates.{records_at, corner_in, seed_in}
-use Rattle.fates.specs.inner.Gathering.{Worded, Copied, Recorded, Drawn}
+use Rattle.fates.specs.inner.Gathering.{Copied, Recorded, Drawn}
 
 -- ---- nothing, a mark, a corner
-
-pub drawn_none : {span n seed m : ℕ} {xs : List ℕ} → Drawn span n seed xs xs m m
-drawn_none {m = m} = record {
-  len = refl;
-  more = omega arith;
-  middle = λ k l h. refl;
-  zero = λ k h e. e;
-  kept = λ c h e. record { first = refl; second = refl };
-  both = λ c h e f. absurd (e f);
-  before = λ k l h. refl;
-  after = λ k h. refl;
-  copied = λ k l h. absurd (omega arith);
-  every = λ c h e f. absurd (e f);
-  once = λ j k lj hj lk hk e. absurd (omega arith);
-}
 
 pub drawn_mark : {span n seed m : ℕ} {xs : List ℕ} (q : ℕ) → q < n → n ≤ span → 4 * span ≤ length xs → Drawn span n seed xs (set xs q 0) m m
 drawn_mark {span} {n} {seed} {m} {xs} q h few room = record {
@@ -199,23 +184,3 @@ module _ {span n seed : ℕ} {xs ys zs : List ℕ} {m r s : ℕ} (d : Drawn span
       both_both : (c : ℕ) → c < span → first_word span xs c ≢ 0 → first_word span zs c ≡ 0 → Dec (first_word span ys c ≡ 0) → second_word span zs c ≡ 0
       both_both c h f z (yes y) = e.zero (3 * span + c) (omega arith) (d.both c h f y)
       both_both c h f z (no y) = e.both c h y z
-
--- a corner still has two words or none
-pub drawn_worded : {span n seed : ℕ} {xs ys : List ℕ} {m r : ℕ} → Drawn span n seed xs ys m r → Worded span xs → Worded span ys
-drawn_worded {span} {n} {seed} {xs} {ys} d s = record {
-  first = λ c h. first_at c h (ℕ_discrete (first_word span ys c) 0);
-  second = λ c h. second_at c h (ℕ_discrete (first_word span ys c) 0);
-  none = λ c h z. none_at c h z (ℕ_discrete (first_word span xs c) 0);
-}
-  where
-    none_at : (c : ℕ) → c < span → first_word span ys c ≡ 0 → Dec (first_word span xs c ≡ 0) → second_word span ys c ≡ 0
-    none_at c h z (yes y) = d.zero (3 * span + c) (omega arith) (s.none c h y)
-    none_at c h z (no y) = d.both c h y z
-
-    first_at : (c : ℕ) → c < span → Dec (first_word span ys c ≡ 0) → first_word span ys c < 32768
-    first_at c h (yes z) = omega arith
-    first_at c h (no z) = rw (d.kept c h z).first (s.first c h)
-
-    second_at : (c : ℕ) → c < span → Dec (first_word span ys c ≡ 0) → second_word span ys c < 32768
-    second_at c h (yes z) = omega (arith, none_at c h z (ℕ_discrete (first_word span xs c) 0))
-    second_at c h (no z) = rw (d.kept c h z).second (s.second c h)

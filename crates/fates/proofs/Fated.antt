@@ -16,12 +16,10 @@ use Rattle.cells.specs.Sums.{total, how_many}
 use Rattle.cells.specs.Listed.{Grouping, grouping_by, members}
 use Rattle.cells.specs.Quads.{quads}
 use Rattle.cells.proofs.Squares.{no_crowd}
-use Rattle.laying.specs.declared.Walked.{Walked}
-use Rattle.laying.specs.declared.Walked.TheVariants as walked
 use Rattle.laying.specs.inner.Layout.{mark, pair_of, Given}
 use Rattle.laying.specs.inner.Invariant.{sign, count}
 use Rattle.laying.specs.inner.Moves.{Rest, Stuck}
-use Rattle.laying.specs.inner.Answers.{Fitted, Labelled, Cleared}
+use Rattle.laying.specs.inner.Answers.{Fitted, Cleared}
 use Rattle.fates.specs.declared.LabelParams.{LabelParams}
 use Rattle.fates.specs.inner.Fates.{records_at, walked_at, walked_of, seed_in, Walk, ReachedFrom}
 use Rattle.fates.specs.inner.Fates.Walk.{within, none, laid}
@@ -32,24 +30,6 @@ use Rattle.fates.proofs.Draining.{holding}
 use Rattle.fates.proofs.OwnRuns.{reached_number}
 use Rattle.fates.proofs.Holdings.{holding_more}
 use Rattle.fates.proofs.Onward.{Stepped, stepped_none, stepped_clear, stepped_take, stepped_word, underway_more}
-
--- ---- the walk's answer
-
-pub laid_of : {span : ℕ} {cells : List ℕ} {n seed : ℕ} {xs ys : List ℕ} {a : Walked} {u : ℕ} → Labelled span cells n seed xs ys a → a ≡ walked.Laid u → Rest span cells n seed xs ys × Fitted span cells n seed ys u
-laid_of {span} {cells} {n} {seed} {xs} {ys} {a} {u} (Labelled.laid {t} r f) e =
-    let q : t ≡ u = cc in
-    (r, subst (λ (k : ℕ). Fitted span cells n seed ys k) q f)
-laid_of (Labelled.clash r s) e =
-    let z : ◌≡◌ {A = ℕ} 0 1 = cc in
-    absurd (omega arith)
-
-pub clash_of : {span : ℕ} {cells : List ℕ} {n seed : ℕ} {xs ys : List ℕ} {a : Walked} {u : ℕ} → Labelled span cells n seed xs ys a → a ≡ walked.Clash u → Rest span cells n seed xs ys × Stuck span cells n seed ys u
-clash_of (Labelled.laid r f) e =
-    let z : ◌≡◌ {A = ℕ} 0 1 = cc in
-    absurd (omega arith)
-clash_of {span} {cells} {n} {seed} {xs} {ys} {a} {u} (Labelled.clash {t} r s) e =
-    let q : t ≡ u = cc in
-    (r, subst (λ (k : ℕ). Stuck span cells n seed ys k) q s)
 
 -- ---- how many are reached
 

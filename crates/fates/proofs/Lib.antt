@@ -16,6 +16,7 @@ pub mod Sizes
 pub mod FateWords
 pub mod Stretches
 pub mod Claims
+pub mod ByNumbers
 pub mod Stored
 pub mod Verdicts
 pub mod Becoming

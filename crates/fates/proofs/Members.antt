@@ -49,9 +49,6 @@ module _ (xs ys : List ℕ) (at n : ℕ) (zeros : Filled xs ys (at + n) n n (λ 
   key_kept : (q : ℕ) → q < n → get_or ys (at + q) 0 ≡ get_or xs (at + q) 0
   key_kept q h = zeros.kept.rest (at + q) (λ j l e. omega arith)
 
-  pub key_small : ((q : ℕ) → q < n → get_or xs (at + q) 0 < n) → (q : ℕ) → q < n → get_or ys (at + q) 0 < n
-  key_small small q h = rw (key_kept q h) (small q h)
-
   pub counted_zeros : (zs : List ℕ) → Counted (λ (q : ℕ). get_or ys (at + q) 0) n ys zs (at + n) n → Counted (λ (q : ℕ). get_or xs (at + q) 0) n xs zs (at + n) n
   counted_zeros zs c = record {
     kept = kept_trans zeros.kept c.kept;

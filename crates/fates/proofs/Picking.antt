@@ -10,10 +10,9 @@ use Rattle.words.specs.inner.Order.{word_of, Room, Ordered, grouped_of}
 use Rattle.words.specs.inner.Regions.{Kept, two}
 use Rattle.words.proofs.Cuts.{ascends}
 use Rattle.words.proofs.Moving.{two_past, two_at}
-use Rattle.words.proofs.Regions.{kept_refl, kept_set}
+use Rattle.words.proofs.Regions.{kept_set}
 use Rattle.fates.specs.inner.Fates.{records_at, lone_at, seed_in}
-use Rattle.fates.specs.inner.Singles.{Alike, Unique, SeedOrder, Picks, CopyOf, From, To, Picked, Batch, LoneFrom}
-use Rattle.fates.specs.inner.Singles.Picks.{left, took}
+use Rattle.fates.specs.inner.Singles.{Alike, Unique, SeedOrder, CopyOf, From, To, Picked, Batch, LoneFrom}
 use Rattle.fates.proofs.Singles.{alike_of}
 
 -- ---- copied records
@@ -65,17 +64,6 @@ module _ {xs ys : List ℕ} {a b m : ℕ} (e : Kept xs ys b (2 * m)) (r : Room x
   }
 
 -- ---- one record more
-
-pub picked_none : (xs : List ℕ) (a b m : ℕ) → Kept xs xs b (2 * m) × Picked xs xs a b m 0 0
-picked_none xs a b m = (
-  kept_refl xs b (2 * m),
-  record {
-    few = omega arith;
-    from = λ i h. absurd (omega arith);
-    to = λ k h o. absurd (omega arith);
-    rises = λ i j l h. absurd (omega arith);
-  },
-)
 
 module _ (xs ys : List ℕ) (a b m k r : ℕ) (O : Room xs a b m) (R : SeedOrder xs a m) (h : k < m) (e : Kept xs ys b (2 * m)) (P : Picked xs ys a b m k r) where
   passed_over : (Unique xs a m k → ⊥) → Picked xs ys a b m (k + 1) r
@@ -141,10 +129,12 @@ module _ (xs ys : List ℕ) (a b m k r : ℕ) (O : Room xs a b m) (R : SeedOrder
             let v : j < r = omega (arith, q) in
             omega (arith, grouped_copied (old i (omega arith)), grouped_copied (old j v), P.rises i j l v)
 
--- what `Picks` leaves, seen from the records at the start
-pub picked_more : (xs ys zs : List ℕ) (a b m k r : ℕ) {t : ℕ} → Room xs a b m → SeedOrder xs a m → k < m → Kept xs ys b (2 * m) → Picked xs ys a b m k r → Picks ys zs a b m k r t → Kept xs zs b (2 * m) × Picked xs zs a b m (k + 1) t
-picked_more xs ys zs a b m k r O R h e P (left n q) = rw q (e, passed_over xs ys a b m k r O R h e P (λ o. n (single_now e O k h o)))
-picked_more xs ys zs a b m k r O R h e P (took o q) = rw q (zs_kept xs ys a b m k r O R h e P, added xs ys a b m k r O R h e P (single_then e O k h o))
+  -- the same by the records as they stand now
+  pub picked_left : (Unique ys a m k → ⊥) → Kept xs ys b (2 * m) × Picked xs ys a b m (k + 1) r
+  picked_left n = (e, passed_over (λ o. n (single_now e O k h o)))
+
+  pub picked_took : Unique ys a m k → Kept xs zs b (2 * m) × Picked xs zs a b m (k + 1) (r + 1)
+  picked_took o = (zs_kept, added (single_then e O k h o))
 
 -- ---- the ordering
 
@@ -160,9 +150,6 @@ module _ (xs zs : List ℕ) (a b m : ℕ) (O : Ordered (grouped_of xs a) xs zs a
 
   pub ordered_ascends : (j k : ℕ) → j ≤ k → k < m → grouped_of zs a j ≤ grouped_of zs a k
   ordered_ascends j k l h = omega (arith, grouped_copied (there j (omega arith)), grouped_copied (there k h), ascends O.order j k l h)
-
-  pub ordered_rises : ((k : ℕ) → k < m → word_of xs a 0 k < 4294967296) → SeedOrder zs a m
-  ordered_rises small = record { small = λ k h. rw (there k h).key (small (O.order.from k) (O.order.from_lt k h)); rises = ordered_ascends }
 
   single_from : (k : ℕ) → k < m → Unique zs a m k → Unique xs a m (O.order.from k)
   single_from k h o j l s = sym (O.order.from_to j l) ∙ ap O.order.from (o (O.order.to j) (O.order.to_lt j l) (alike_copied (copied_back (back j l)) (copied_back (there k h)) s))

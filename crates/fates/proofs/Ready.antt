@@ -1,44 +1,60 @@
 -- The workspace before the first walk, from what each routine leaves of it. Assumes nothing.
 use mathlib.Core.Path.{◌≡◌, sym, ap, ◌∙◌}
-use mathlib.Core.List.{List}
-use Prim.Native.Nat.{ℕ, ◌+◌, ◌*◌, ◌-◌, ◌/◌, ◌≤◌, ◌<◌}
+use mathlib.Core.List.{List, ◌++◌}
+use Prim.Native.Nat.{ℕ, ◌+◌, ◌*◌, ◌-◌, ◌≤◌, ◌<◌}
+use native.Mathlib.Decide.{dec_lt}
 use native.Mathlib.Omega.{arith}
-use lib.ListN.{length, get_or}
-use Rattle.words.specs.inner.Regions.{Filled}
+use lib.ListN.{length, get_or, take, drop, replicate, length-replicate}
+use lib.Seq.{length-take-le}
+use borrow.Author.Rules.{rules}
+use Rattle.std.specs.List.{CopiedTo, SameBelow, SameFrom}
+use Rattle.std.proofs.lemmas.List.{places}
+use Rattle.words.specs.inner.Regions.{Outside, Filled}
 use Rattle.words.specs.Sorting.{equal}
 use Rattle.cells.specs.Cells.{everyone}
-use Rattle.cells.specs.inner.Sides.{side_key}
 use Rattle.cells.proofs.Groups.{groups_same}
 use Rattle.laying.specs.inner.Layout.{flags_at, Given}
 use Rattle.fates.specs.inner.Fates.{groups_at, fates_at}
-use Rattle.fates.specs.inner.Runs.{Rising, Told}
+use Rattle.fates.specs.inner.Runs.{Told}
 use Rattle.fates.specs.inner.Prepared.{Sided, Ready}
 use Rattle.fates.proofs.RunStarts.{walk_table}
 use Rattle.fates.proofs.Members.{equal_same}
 use Rattle.fates.proofs.Seating.{inside}
 
+-- the front of a list that has come back all zero
+pub front_zero : (xs ys : List ℕ) (m : ℕ) → m ≤ length xs → ys ≡ replicate (length (take m xs)) 0 → Filled xs (ys ++ drop m xs) 0 m m (λ (k : ℕ). 0)
+front_zero xs ys m h e = record {
+  kept = record { len = let l = same in search (rules, places); rest = λ k o. rest k o (dec_lt k m) };
+  holds = λ k l. let s = same in search (rules, places);
+}
+  where
+    same : length ys ≡ m
+    same = ap length e ∙ length-replicate (length (take m xs)) 0 ∙ length-take-le m xs h
+
+    rest : (k : ℕ) → Outside 0 m k → Dec (k < m) → get_or (ys ++ drop m xs) k 0 ≡ get_or xs k 0
+    rest k o (yes l) = absurd (o k l (omega arith))
+    rest k o (no l) = let s = same in search (rules, places)
+
+-- n words that are copied within a list
+pub filled_copy : (xs ys : List ℕ) (from at m n : ℕ) → m ≡ n → length ys ≡ length xs → CopiedTo xs ys from at m × SameBelow xs ys at × SameFrom xs ys (at + m) → Filled xs ys at n n (λ (k : ℕ). get_or xs (from + k) 0)
+filled_copy xs ys from at m n e len c = record {
+  kept = record { len = len; rest = λ k o. rest k o (dec_lt k at) (dec_lt k (at + m)) };
+  holds = λ k l. c.0 (at + k) 0 (omega arith) (omega arith) ∙ ap (λ (i : ℕ). get_or xs i 0) (omega arith);
+}
+  where
+    rest : (k : ℕ) → Outside at n k → Dec (k < at) → Dec (k < at + m) → get_or ys k 0 ≡ get_or xs k 0
+    rest k o (yes l) d = c.1 k 0 l
+    rest k o (no l) (yes u) = absurd (o (k - at) (omega arith) (omega arith))
+    rest k o (no l) (no u) = c.2 k 0 (omega arith)
+
 -- after the groups (sided), the run starts (told), the move, the count, and the zeros at the front and in the flags
 module _ (span : ℕ) (cells : List ℕ) (n : ℕ) (given : Given span cells n) (ws xs : List ℕ) (room : 4 * span + 26 * n ≤ length ws) (sided : Sided span cells n ws xs) where
-  pub rising : Rising span n xs
-  rising = record {
-    room = omega (arith, sided.len);
-    few = given.few;
-    most = given.most;
-    sides = sided.table.sides;
-    alike = λ i j hi hj e. sided.table.keys i hi ∙ ap (λ (z : ℕ). side_key 4 cells (z / 4) z) e ∙ sym (sided.table.keys j hj);
-    ascends = sided.table.ascends;
-  }
-
   module _ (ys zs : List ℕ) (told : Told span n xs ys (4 * n)) (moved : Filled ys zs (groups_at span n) n n (λ (q : ℕ). get_or ys (4 * span - n + q) 0)) where
     len_moved : length zs ≡ length ws
     len_moved = moved.kept.len ∙ told.kept.len ∙ sided.len
 
     group_moved : (q : ℕ) → q < n → get_or zs (groups_at span n + q) 0 ≡ get_or xs (4 * span - n + q) 0
     group_moved q h = moved.holds q h ∙ told.kept.rest (4 * span - n + q) (λ j l e. omega (arith, given.few))
-
-    -- a group's number is one of the quads'
-    pub group_small : (q : ℕ) → q < n → get_or zs (groups_at span n + q) 0 < n
-    group_small q h = omega (arith, group_moved q h, sided.groups.lowest q h)
 
     module _ (cs fs es : List ℕ) (counted : Filled zs cs (groups_at span n + n) n n (equal (λ (q : ℕ). get_or zs (groups_at span n + q) 0) n)) (front : Filled cs fs 0 (4 * span) (4 * span) (λ (k : ℕ). 0)) (flags : Filled fs es (flags_at span n) (4 * n) (4 * n) (λ (k : ℕ). 0)) where
       len : length es ≡ length ws

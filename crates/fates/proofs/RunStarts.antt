@@ -6,7 +6,7 @@ use Prim.Native.Nat.{ℕ, ◌+◌, ◌*◌, ◌/◌, ◌≤◌, ◌<◌}
 use native.Mathlib.Decide.{ℕ_discrete, dec_lt, dec_le}
 use native.Mathlib.Omega.{arith}
 use lib.ListN.{length, get_or, set}
-use Rattle.words.proofs.Regions.{set_cases, kept_refl, kept_set}
+use Rattle.words.proofs.Regions.{set_cases, kept_set}
 use Rattle.cells.specs.inner.Sides.{side_key}
 use Rattle.laying.specs.inner.Layout.{key_at, number_at, run_of, Across, InRun, Table}
 use Rattle.fates.specs.inner.Runs.{Rising, Begin, Told, Started}
@@ -20,9 +20,6 @@ pub record Ahead (key : ℕ → ℕ) (f i : ℕ) : Type 0 where
   pub le : f ≤ i
   pub run : (j : ℕ) → f ≤ j → j < i → key j ≡ key f
   pub before : (j : ℕ) → j < f → key j < key f
-
-pub ahead_none : (key : ℕ → ℕ) → Ahead key 0 0
-ahead_none key = record { le = omega arith; run = λ j a b. absurd (omega arith); before = λ j a. absurd (omega arith) }
 
 pub begins : (key : ℕ → ℕ) {f i r : ℕ} → Ahead key f i → key f ≤ key i → Started key f i r → Begin key r i × Ahead key r (i + 1)
 begins key {f} {i} {r} a s (old e q) = rw q (
@@ -54,9 +51,6 @@ earlier {key} {r} {i} j b h e = record { le = go (dec_le r j); run = λ l x y. b
     go (no d) = absurd (b.before j (omega arith) e)
 
 -- ---- the starts
-
-pub told_none : (span n : ℕ) (xs : List ℕ) → Told span n xs xs 0
-told_none span n xs = record { kept = kept_refl xs (4 * span + 8 * n) (4 * n); begin = λ j h. absurd (omega arith) }
 
 pub told_more : {span n : ℕ} {xs ys : List ℕ} {i : ℕ} (e r : ℕ) → Rising span n xs → Told span n xs ys i → i < 4 * n → e ≡ number_at span xs i → Begin (key_at span xs) r i → Told span n xs (set ys (4 * span + 8 * n + e) r) (i + 1)
 told_more {span} {n} {xs} {ys} {i} e r o t h is b =

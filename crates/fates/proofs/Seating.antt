@@ -13,22 +13,12 @@ use Rattle.words.proofs.Regions.{part_at, part_in, part_len}
 use Rattle.cells.specs.Cells.{Neighbours, everyone}
 use Rattle.cells.specs.Groups.{Groups}
 use Rattle.cells.specs.Groups.Linked.{same, on}
-use Rattle.cells.specs.inner.Table.{unmarked, groups_end, Sound}
+use Rattle.cells.specs.inner.Table.{unmarked}
 use Rattle.cells.specs.inner.Sides as sides
 use Rattle.cells.specs.inner.Sides.{side_key, Stands, Grouped}
 use Rattle.cells.proofs.Groups.{same_groups, groups_same}
 use Rattle.laying.specs.inner.Layout.{key_at, number_at, Given}
 use Rattle.fates.specs.inner.Prepared.{SideTable, Sided}
-
-pub sound : {span : ℕ} {cells : List ℕ} {n : ℕ} → Given span cells n → Sound 4 cells n
-sound g = record {
-  least = omega arith;
-  most = omega arith;
-  whole = g.whole;
-  few = omega (arith, g.few, g.most);
-  corners = λ k h. omega (arith, g.below k h, g.most);
-  proper = λ q i hq hi e. omega (arith, g.distinct q i (i + 1) hq e);
-}
 
 round : (e q i : ℕ) → e ≡ 4 * q + i → e % 4 ≡ i % 4
 round e q i is = omega arith
@@ -69,9 +59,6 @@ module _ (span : ℕ) (cells : List ℕ) (n : ℕ) (given : Given span cells n) 
 
   long : length part ≡ 18 * n
   long = mid_len at (at + 18 * n) xs fits ∙ omega arith
-
-  pub part_room : groups_end 4 n ≤ length part
-  part_room = omega (arith, long)
 
   blank : (q : ℕ) → q < n → get_or part q 0 ≡ 0
   blank q h = part_at xs at (at + 18 * n) q (omega arith) ∙ zeros.holds q h

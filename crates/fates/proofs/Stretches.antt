@@ -1,11 +1,13 @@
 -- Records in order of the quads stand in one stretch for each: a cursor goes from stretch to stretch, and where the records' words are the
 -- same in another list, so is all that is said of them. Assumes nothing.
-use mathlib.Core.Path.{◌≡◌, sym, ap, ap₂, ◌∙◌}
+use mathlib.Core.Path.{◌≡◌, sym, ap₂, ◌∙◌}
+use mathlib.Core.Logic.{◌≢◌}
 use mathlib.Core.List.{List}
 use Prim.Native.Nat.{ℕ, ◌+◌, ◌*◌, ◌≤◌, ◌<◌}
-use native.Mathlib.Decide.{ℕ_discrete, dec_lt}
+use native.Mathlib.Decide.{dec_lt}
 use native.Mathlib.Omega.{arith}
-use lib.ListN.{length}
+use Rattle.std.specs.Prelude.{Option, None, Some, MatchOption}
+use Rattle.std.specs.Option.{unwrap_or}
 use Rattle.words.specs.inner.Order.{word_of, grouped_of}
 use Rattle.cells.specs.Kind.{Pair}
 use Rattle.fates.specs.inner.Fates.{key_in, seed_in, Holding}
@@ -16,9 +18,6 @@ use Rattle.fates.proofs.Holdings.{same_seed, holding_more}
 
 -- ---- from stretch to stretch
 
-pub cursor_start : (w : List ℕ) (a m : ℕ) → Cursor w a m 0 0
-cursor_start w a m = record { most = omega arith; before = λ k h. absurd (omega arith); after = λ k h l. omega arith }
-
 pub cursor_next : {w : List ℕ} {a m s from to : ℕ} → Stretch w a m s from to → Cursor w a m (s + 1) to
 cursor_next {w} {a} {s = s} {from} {to} r = record { most = r.most; before = λ k h. go k h (dec_lt k from); after = λ k h l. omega (arith, r.after k h l) }
   where
@@ -26,21 +25,12 @@ cursor_next {w} {a} {s = s} {from} {to} r = record { most = r.most; before = λ 
     go k h (yes l) = omega (arith, r.before k l)
     go k h (no l) = omega (arith, r.within k (omega (arith, l)) h)
 
-pub stretch_more : (w : List ℕ) (a : ℕ) {s from : ℕ} (i : ℕ) → ((k : ℕ) → from ≤ k → k < i → seed_in w a k ≡ s) → seed_in w a i ≡ s → (k : ℕ) → from ≤ k → k < i + 1 → seed_in w a k ≡ s
-stretch_more w a {s} i h e k p q = go (ℕ_discrete k i)
-  where
-    go : Dec (k ≡ i) → seed_in w a k ≡ s
-    go (yes y) = ap (seed_in w a) y ∙ e
-    go (no y) = h k p (omega (arith, y))
-
-pub stretch_ends : {w : List ℕ} {a m s from : ℕ} (i : ℕ) → Lined w a m → Cursor w a m s from → from ≤ i → i ≤ m → ((k : ℕ) → from ≤ k → k < i → seed_in w a k ≡ s) → (i < m → seed_in w a i ≡ s → ⊥) → Stretch w a m s from i
-stretch_ends {w} {a} {m} {s} i l c p q h n = record {
-  up = p;
-  most = q;
-  before = c.before;
-  within = h;
-  after = λ k b e. let o = n (omega arith) in omega (arith, o, c.after i p (omega arith), l.ascends i k b e);
-}
+-- quad s's records begin at `from`, and end before the first that is not of s
+pub stretch_found : {w : List ℕ} {a m s from : ℕ} (r : Option ℕ) → Lined w a m → Cursor w a m s from
+    → MatchOption r ((k : ℕ) → from ≤ k → k < m → seed_in w a k ≡ s) (λ i. (from ≤ i) × (i < m) × (seed_in w a i ≢ s) × ((k : ℕ) → from ≤ k → k < i → seed_in w a k ≡ s))
+    → Stretch w a m s from (unwrap_or r m)
+stretch_found None l c h = record { up = c.most; most = omega arith; before = c.before; within = h; after = λ k b e. absurd (omega arith) }
+stretch_found (Some i) l c h = record { up = h.0; most = omega arith; before = c.before; within = h.3; after = λ k b e. omega (arith, h.2, c.after i h.0 h.1, l.ascends i k b e) }
 
 -- ---- the same words
 
@@ -50,19 +40,6 @@ module _ (xs ys : List ℕ) (a m : ℕ) (same : (k i : ℕ) → k < m → i < 2 
 
   pub same_grouped : (k : ℕ) → k < m → grouped_of ys a k ≡ grouped_of xs a k
   same_grouped k h = ap₂ (λ (seed key : ℕ). seed * 4294967296 + key) (same_seed xs ys a m same k h) (same_key k h)
-
-  pub same_lined : length ys ≡ length xs → Lined xs a m → Lined ys a m
-  same_lined len l = record {
-    room = omega (arith, l.room);
-    ascends = λ j k h e. rw (same_seed xs ys a m same j (omega arith), same_seed xs ys a m same k e) (l.ascends j k h e);
-  }
-
-  pub same_cursor : {s from : ℕ} → Cursor xs a m s from → Cursor ys a m s from
-  same_cursor {s} {from} c = record {
-    most = c.most;
-    before = λ k h. rw (same_seed xs ys a m same k (omega (arith, c.most))) (c.before k h);
-    after = λ k h l. rw (same_seed xs ys a m same k l) (c.after k h l);
-  }
 
   pub same_stretch : {s from to : ℕ} → Stretch xs a m s from to → Stretch ys a m s from to
   same_stretch {s} {from} {to} r = record {

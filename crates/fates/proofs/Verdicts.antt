@@ -1,6 +1,6 @@
 -- Quad by quad: where the quads below s are judged, and quad s is then settled by its two runs, those below s + 1 are judged. Assumes
 -- nothing.
-use mathlib.Core.Path.{◌≡◌, refl, sym, ◌∙◌}
+use mathlib.Core.Path.{◌≡◌, sym, ◌∙◌}
 use mathlib.Core.List.{List}
 use Prim.Native.Nat.{ℕ, ◌+◌, ◌*◌, ◌-◌, ◌≤◌, ◌<◌}
 use native.Mathlib.Decide.{ℕ_discrete}
@@ -14,15 +14,12 @@ use Rattle.fates.specs.declared.LabelParams.{LabelParams}
 use Rattle.fates.specs.declared.Runs.{Runs}
 use Rattle.fates.specs.inner.Fates.{fates_at, records_at, walked_at, lone_at, fate_of, walked_of}
 use Rattle.fates.specs.inner.Index.{Stretch, index_at}
-use Rattle.fates.specs.inner.Judging.{Lined, Cursor, Begins, Spacious, Inside, Verdict, Settled, Ruled, Judges, Tabled}
+use Rattle.fates.specs.inner.Judging.{Begins, Spacious, Verdict, Settled, Ruled, Judges, Tabled}
 use Rattle.fates.proofs.Claims.{word_from_lem}
-use Rattle.fates.proofs.Stretches.{same_lined, same_cursor, same_stretch, same_begins}
+use Rattle.fates.proofs.Stretches.{same_stretch, same_begins}
 use Rattle.fates.proofs.Stored.{stored_len, elsewhere, fate_there, lone_at_lem, lone_count, all_at, all_count}
 
 module _ (span n : ℕ) (params : LabelParams) (all m : ℕ) (xs : List ℕ) (T : Tabled span n all m xs) where
-  pub judges_none : Judges span n params all m 0 xs xs
-  judges_none = record { len = refl; rest = λ k o f w. refl; ruled = λ q h. absurd (omega arith) }
-
   module _ (s : ℕ) (ys : List ℕ) (J : Judges span n params all m s xs ys) where
     -- the records are no words of the quads
     pub same_all : s ≤ n → (k i : ℕ) → k < all → i < 2 → word_of ys (records_at span n) i k ≡ word_of xs (records_at span n) i k
@@ -33,12 +30,6 @@ module _ (span n : ℕ) (params : LabelParams) (all m : ℕ) (xs : List ℕ) (T 
 
     pub spacious : s < n → Spacious span n s ys
     spacious h = record { room = omega (arith, J.len, T.room); few = T.few; most = T.most; small = h }
-
-    pub all_lined : s ≤ n → {from : ℕ} → Cursor xs (records_at span n) all s from → Lined ys (records_at span n) all × Cursor ys (records_at span n) all s from
-    all_lined l c = (same_lined xs ys (records_at span n) all (same_all l) J.len T.all_lined, same_cursor xs ys (records_at span n) all (same_all l) c)
-
-    pub lone_lined : s ≤ n → {from : ℕ} → Cursor xs (lone_at span) m s from → Lined ys (lone_at span) m × Cursor ys (lone_at span) m s from
-    lone_lined l c = (same_lined xs ys (lone_at span) m (same_lone l) J.len T.lone_lined, same_cursor xs ys (lone_at span) m (same_lone l) c)
 
     pub all_back : s ≤ n → {from to : ℕ} → Stretch ys (records_at span n) all s from to → Stretch xs (records_at span n) all s from to
     all_back l r = same_stretch ys xs (records_at span n) all (λ k i h b. sym (same_all l k i h b)) r
@@ -51,9 +42,6 @@ module _ (span n : ℕ) (params : LabelParams) (all m : ℕ) (xs : List ℕ) (T 
   runs_of i after j lone_after = record { lone = record { at = lone_at span + 2 * j; count = lone_after - j }; all = record { at = records_at span n + 2 * i; count = after - i } }
 
   module _ (s : ℕ) (ys : List ℕ) (J : Judges span n params all m s xs ys) (h : s < n) (i after j lone_after : ℕ) (A : Stretch ys (records_at span n) all s i after) (B : Stretch ys (lone_at span) m s j lone_after) where
-    pub within : Inside span n (runs_of i after j lone_after).lone × Inside span n (runs_of i after j lone_after).all
-    within = (record { at = omega (arith, B.up, B.most, T.few_lone); end = omega (arith, B.up, B.most, T.few_lone) }, record { at = omega (arith, A.up, A.most, T.few_all); end = omega (arith, A.up, A.most, T.few_all) })
-
     module _ (zs : List ℕ) (S : Settled span n params s (runs_of i after j lone_after) ys zs) where
       abbrev runs : Runs
       runs = runs_of i after j lone_after

@@ -2,17 +2,15 @@
 // gave words. After each walk marks and words are blank again, and the sizes of the groups are still there.
 ghost use Rattle.std.specs.Prelude.{◌≡◌, ◌+◌, ◌*◌, ◌≤◌, ◌<◌, length};
 ghost use Rattle.mesh.specs.Lists.{most_corners};
-ghost use Rattle.laying.specs.inner.Layout.{Given, first_word};
+ghost use Rattle.laying.specs.inner.Layout.{first_word};
 ghost use Rattle.laying.specs.inner.Answers.{Fitted};
 ghost use Rattle.fates.specs.inner.Prepared.{Ready};
 ghost use Rattle.fates.specs.inner.Gathering.{Worded, Drawn, Emptied, Taken, numbers_in, Begun, Advances, Gathers};
 
-use laying::Walked;
 use laying::inner::clear::{clear, wipe};
-use laying::inner::corners::corner_of;
 use laying::inner::label::label;
 use laying::inner::layout::{GROUPS, KEYS, RECORDS, SEEDS, WALKED};
-use words::inner::wide;
+use laying::inner::sheet::Sheet;
 
 // Corner c has no words; where it had, a record of them follows the m records.
 fn take_corner(work: &mut [u32], span: usize, n: usize, seed: usize, m: usize, c: usize) -> usize
@@ -34,108 +32,79 @@ fn take_corner(work: &mut [u32], span: usize, n: usize, seed: usize, m: usize, c
 }
 
 // Quad q has no mark, and its corners have no words; those that had have records.
-fn take_quad(
-    quads: &[u32],
-    work: &mut [u32],
-    span: usize,
-    n: usize,
-    seed: usize,
-    m: usize,
-    q: usize,
-) -> usize
-    requires given { Given span quads.now n × (4 * span + 26 * n ≤ length work.old) }
-    requires q_lt_n { (q < n) × (seed < n) × (m + 4 ≤ 4 * n) }
-    requires worded { Worded span work.old }
-    ensures { Emptied span quads.now n seed work.old work.new m result q }
+fn take_quad(sheet: Sheet<'_>, work: &mut [u32], seed: usize, m: usize, q: usize) -> usize
+    requires n_in_bounds { 4 * sheet.span + 26 * sheet.count ≤ length work.old }
+    requires q_lt_n { (q < sheet.count) × (seed < sheet.count) × (m + 4 ≤ 4 * sheet.count) }
+    requires worded { Worded sheet.span work.old }
+    ensures { let s = sheet.entry in Emptied s.span s.quads.now s.count seed work.old work.new m result q }
 {
     work[q] = 0;
     let mut r = m;
-    let mut k = 0;
-    while k < 4 {
-        let c = corner_of(quads, span, n, q, k);
-        r = take_corner(work, span, n, seed, r, c);
-        k += 1;
+    for k in 0..4 {
+        let c = sheet.corner(q, k);
+        r = take_corner(work, sheet.span, sheet.count, seed, r, c);
     }
     r
 }
 
 // The `tail` quads of the queue have no marks and no corner has words; those that had have records.
-fn take(
-    quads: &[u32],
-    work: &mut [u32],
-    span: usize,
-    n: usize,
-    seed: usize,
-    m: usize,
-    tail: usize,
-) -> usize
-    requires given { Given span quads.now n × (4 * span + 26 * n ≤ length work.old) }
-    requires seed_lt_n { (seed < n) × (m + 4 * tail ≤ 4 * n) }
-    requires fitted { Fitted span quads.now n seed work.old tail }
-    ensures { Taken span n seed work.old work.new m result tail }
+fn take(sheet: Sheet<'_>, work: &mut [u32], seed: usize, m: usize, tail: usize) -> usize
+    requires n_in_bounds { 4 * sheet.span + 26 * sheet.count ≤ length work.old }
+    requires seed_lt_n { (seed < sheet.count) × (m + 4 * tail ≤ 4 * sheet.count) }
+    requires fitted { Fitted sheet.span sheet.quads.now sheet.count seed work.old tail }
+    ensures { let s = sheet.entry in Taken s.span s.count seed work.old work.new m result tail }
 {
     let mut r = m;
-    let mut i = 0;
-    while i < tail {
-        let q = wide(work[span + i]);
-        r = take_quad(quads, work, span, n, seed, r, q);
-        i += 1;
+    for i in 0..tail {
+        let q = work[sheet.span + i] as usize;
+        r = take_quad(sheet, work, seed, r, q);
     }
     r
 }
 
 // The walk from a group's lowest quad: how many quads it reached, with the records of their corners, or 0 where there is no labelling.
-fn walk_from(quads: &[u32], work: &mut [u32], span: usize, n: usize, seed: usize, m: usize) -> usize
-    requires given { Given span quads.now n × (seed < n) }
-    requires begun { Begun span quads.now n seed m work.old }
-    requires seed_value { numbers_in span n work.old seed ≡ seed }
-    ensures { Advances span quads.now n seed m result work.old work.new }
+fn walk_from(sheet: Sheet<'_>, work: &mut [u32], seed: usize, m: usize) -> usize
+    requires seed_lt_n { seed < sheet.count }
+    requires begun { Begun sheet.span sheet.quads.now sheet.count seed m work.old }
+    requires seed_value { numbers_in sheet.span sheet.count work.old seed ≡ seed }
+    ensures { let s = sheet.entry in Advances s.span s.quads.now s.count seed m result work.old work.new }
 {
-    let walked = label(quads, work, span, n, seed);
-    match walked {
-        Walked::Laid(t) => {
-            let r = take(quads, work, span, n, seed, m, t);
-            work[4 * span + WALKED * n + seed] = t as u32;
+    let at = 4 * sheet.span + WALKED * sheet.count + seed;
+    match label(sheet, work, seed) {
+        Ok(reached) => {
+            let r = take(sheet, work, seed, m, reached);
+            work[at] = reached as u32;
             r
         }
-        Walked::Clash(t) => {
-            clear(quads, work, span, n, t);
-            work[4 * span + WALKED * n + seed] = 0;
+        Err(clash) => {
+            clear(sheet, work, clash.queued);
+            work[at] = 0;
             m
         }
     }
 }
 
 // The walk from one quad, where it is its group's lowest.
-fn gather_seed(
-    quads: &[u32],
-    work: &mut [u32],
-    span: usize,
-    n: usize,
-    seed: usize,
-    m: usize,
-) -> usize
-    requires given { Given span quads.now n × (seed < n) }
-    requires begun { Begun span quads.now n seed m work.old }
-    ensures { Advances span quads.now n seed m result work.old work.new }
+fn gather_seed(sheet: Sheet<'_>, work: &mut [u32], seed: usize, m: usize) -> usize
+    requires seed_lt_n { seed < sheet.count }
+    requires begun { Begun sheet.span sheet.quads.now sheet.count seed m work.old }
+    ensures { let s = sheet.entry in Advances s.span s.quads.now s.count seed m result work.old work.new }
 {
-    if wide(work[4 * span + GROUPS * n + seed]) != seed {
+    if work[4 * sheet.span + GROUPS * sheet.count + seed] as usize != seed {
         return m;
     }
-    walk_from(quads, work, span, n, seed, m)
+    walk_from(sheet, work, seed, m)
 }
 
 // All quads in order: every walk, and the records, of which the number is answered.
-pub(crate) fn gather(quads: &[u32], work: &mut [u32], span: usize, n: usize) -> usize
-    requires given { Given span quads.now n × (4 * span + 27 * n ≤ length work.old) }
-    requires ready { Ready span quads.now n work.old }
-    ensures { Gathers span quads.now n result work.old work.new }
+pub(crate) fn gather(sheet: Sheet<'_>, work: &mut [u32]) -> usize
+    requires n_in_bounds { 4 * sheet.span + 27 * sheet.count ≤ length work.old }
+    requires ready { Ready sheet.span sheet.quads.now sheet.count work.old }
+    ensures { let s = sheet.entry in Gathers s.span s.quads.now s.count result work.old work.new }
 {
     let mut m = 0;
-    let mut seed = 0;
-    while seed < n {
-        m = gather_seed(quads, work, span, n, seed, m);
-        seed += 1;
+    for seed in 0..sheet.count {
+        m = gather_seed(sheet, work, seed, m);
     }
     m
 }

@@ -1,39 +1,35 @@
 // What becomes of the groups, without a call's checks. A `requires` here is what the rows of the calls above have let through (1, 2, 5, 6
 // and 8), or what `compute` has left.
 ghost use Rattle.std.specs.Prelude.{◌≡◌, ◌+◌, ◌*◌, ◌≤◌, ◌<◌, max, length};
-ghost use Rattle.laying.specs.inner.Layout.{Given};
 ghost use Rattle.fates.specs.inner.Computed.{Computed};
 ghost use Rattle.fates.specs.inner.FateWords.{fate_at};
 ghost use Rattle.fates.specs.inner.Index.{runs_at};
 
+use crate::fate_words::FateWords;
 use crate::gather::gather;
 use crate::judge::judge_groups;
 use crate::lone::list_lone;
 use crate::prepare::prepare;
 use crate::{Fate, LabelParams, Run, Runs};
 use laying::inner::layout::{FATES, INDEX, WALKED};
-use words::inner::wide;
+use laying::inner::sheet::Sheet;
 
 // The words of a region: one for each quad, and for each corner.
 pub fn span_of(quads: usize, corners: usize) -> usize
     ensures { result ≡ max quads corners }
 {
-    if quads < corners {
-        return corners;
-    }
-    quads
+    quads.max(corners)
 }
 
 // The groups, their walks, the records of their corners and the fate of each.
-pub fn compute(quads: &[u32], work: &mut [u32], span: usize, n: usize, params: LabelParams)
-    requires given { Given span quads.now n }
-    requires n_in_bounds { 4 * span + 27 * n ≤ length work.old }
-    ensures { Computed span quads.now n params work.old work.new }
+pub fn compute(sheet: Sheet<'_>, work: &mut [u32], params: LabelParams)
+    requires { 4 * sheet.span + 27 * sheet.count ≤ length work.old }
+    ensures { let s = sheet.entry in Computed s.span s.quads.now s.count params work.old work.new }
 {
-    prepare(quads, work, span, n);
-    let all = gather(quads, work, span, n);
-    let m = list_lone(work, span, n, all);
-    judge_groups(work, span, n, all, m, params);
+    prepare(sheet, work);
+    let all = gather(sheet, work);
+    let m = list_lone(work, sheet.span, sheet.count, all);
+    judge_groups(work, sheet.span, sheet.count, all, m, params);
 }
 
 // What became of the group of quad s, in the workspace that `compute` has left.
@@ -41,14 +37,10 @@ pub fn fate_at(work: &[u32], span: usize, n: usize, s: usize) -> Fate
     requires { (4 * span + 27 * n ≤ length work.now) × (s < n) }
     ensures { result ≡ fate_at span n work.now s }
 {
-    let claims = work[4 * span + WALKED * n + s];
-    match work[4 * span + FATES * n + s] {
-        0 => Fate::NotLowest,
-        1 => Fate::TooFewQuads,
-        2 => Fate::NoLabelling,
-        3 => Fate::TooFewLone(claims),
-        _ => Fate::Kept(claims),
-    }
+    Fate::from(FateWords {
+        number: work[4 * span + FATES * n + s],
+        claims: work[4 * span + WALKED * n + s],
+    })
 }
 
 // Where the records of quad s's group stand.
@@ -59,12 +51,12 @@ pub fn runs_at(work: &[u32], span: usize, n: usize, s: usize) -> Runs
     let at = 4 * span + INDEX * n + 4 * s;
     Runs {
         lone: Run {
-            at: wide(work[at]),
-            count: wide(work[at + 1]),
+            at: work[at] as usize,
+            count: work[at + 1] as usize,
         },
         all: Run {
-            at: wide(work[at + 2]),
-            count: wide(work[at + 3]),
+            at: work[at + 2] as usize,
+            count: work[at + 3] as usize,
         },
     }
 }

@@ -1,44 +1,31 @@
 // The fate of every quad, which is its group's where it is the lowest: by the number of the group's quads, the walk's answer and the number
 // of lone corners. Beside it the place of the group's records, and the number of pairs that several corners claim.
-ghost use Rattle.std.specs.Prelude.{◌≡◌, ◌+◌, ◌*◌, ◌≤◌, ◌<◌, length};
+ghost use Rattle.std.specs.Prelude.{◌≡◌, ◌+◌, ◌*◌, ◌≤◌, ◌<◌, ◌↔◌, IsTrue, length};
 ghost use Rattle.cells.specs.Counted.{Exactly};
 ghost use Rattle.fates.specs.inner.Index.{Stretch};
-ghost use Rattle.fates.specs.inner.Singles.{Tells};
-ghost use Rattle.fates.specs.inner.FateWords.{fate_number, claimed_in};
 ghost use Rattle.fates.specs.inner.Judging.{Lined, Cursor, Begins, Falls, with_fate, with_runs, Spacious, Inside, Settled, Tabled, Judges};
 
+use crate::fate_words::FateWords;
 use crate::lone::follows;
 use crate::{Fate, LabelParams, Run, Runs};
 use laying::inner::layout::{FATES, INDEX, RECORDS, SEEDS, WALKED};
-use words::inner::wide;
 
 // Where the records of quad s end, which begin at `from`, among m records from `at` on in order.
 fn run_end(work: &[u32], at: usize, m: usize, s: usize, from: usize) -> usize
     requires { Lined work.now at m × Cursor work.now at m s from }
     ensures { Stretch work.now at m s from result }
 {
-    let mut i = from;
-    while i < m {
-        if wide(work[at + 2 * i + 1] % SEEDS) != s {
-            return i;
-        }
-        i += 1;
-    }
-    i
+    (from..m)
+        .find(|&i| (work[at + 2 * i + 1] % SEEDS) as usize != s)
+        .unwrap_or(m)
 }
 
 // Whether record k of the `count` from a on is the first of several with its pair.
 fn begins_claim(work: &[u32], a: usize, k: usize, count: usize) -> bool
     requires { (a + 2 * count ≤ length work.now) × (k < count) }
-    ensures { Tells (Begins work.now a count k) result }
+    ensures { IsTrue result ↔ Begins work.now a count k }
 {
-    if follows(work, a, k) {
-        return false;
-    }
-    if k + 1 == count {
-        return false;
-    }
-    follows(work, a, k + 1)
+    !follows(work, a, k) && k + 1 < count && follows(work, a, k + 1)
 }
 
 // How many pairs several of the run's records have.
@@ -47,18 +34,17 @@ fn claimed(work: &[u32], run: Run) -> u32
     ensures { Exactly (Begins work.now run.at run.count) result }
 {
     let a = run.at;
-    let mut claims = 0u32;
-    let mut k = 0;
-    while k < run.count {
+    let mut claims = 0;
+    for k in 0..run.count {
         if begins_claim(work, a, k, run.count) {
             claims += 1;
         }
-        k += 1;
     }
     claims
 }
 
 // The fate of a quad with so many quads in its group, so many of them reached, so many lone corners and so many claimed pairs.
+#[tactic(auto, using(crate::proofs::ByNumbers::applies))]
 fn fate_by(size: u32, reached: u32, lone: usize, claims: u32, params: LabelParams) -> Fate
     ensures { Falls params size reached lone claims result }
 {
@@ -77,39 +63,14 @@ fn fate_by(size: u32, reached: u32, lone: usize, claims: u32, params: LabelParam
     Fate::Kept(claims)
 }
 
-// The number that stands for a fate.
-fn fate_number(fate: Fate) -> u32
-    ensures { result ≡ fate_number fate }
-{
-    match fate {
-        Fate::NotLowest => 0,
-        Fate::TooFewQuads => 1,
-        Fate::NoLabelling => 2,
-        Fate::TooFewLone(_) => 3,
-        Fate::Kept(_) => 4,
-    }
-}
-
-// The number of claimed pairs that goes with a fate.
-fn claims_in(fate: Fate) -> u32
-    ensures { result ≡ claimed_in fate }
-{
-    match fate {
-        Fate::NotLowest => 0,
-        Fate::TooFewQuads => 0,
-        Fate::NoLabelling => 0,
-        Fate::TooFewLone(claims) => claims,
-        Fate::Kept(claims) => claims,
-    }
-}
-
 // The fate of quad s as two words.
 fn store_fate(work: &mut [u32], span: usize, n: usize, s: usize, fate: Fate)
     requires { Spacious span n s work.old }
     ensures { work.new ≡ with_fate span n s fate work.old }
 {
-    work[4 * span + FATES * n + s] = fate_number(fate);
-    work[4 * span + WALKED * n + s] = claims_in(fate);
+    let words = FateWords::from(fate);
+    work[4 * span + FATES * n + s] = words.number;
+    work[4 * span + WALKED * n + s] = words.claims;
 }
 
 // The place of quad s's records as four words.
@@ -155,8 +116,7 @@ pub(crate) fn judge_groups(
     let b = 4 * span;
     let mut i = 0;
     let mut j = 0;
-    let mut s = 0;
-    while s < n {
+    for s in 0..n {
         let after = run_end(work, a, all, s, i);
         let lone_after = run_end(work, b, m, s, j);
         let runs = Runs {
@@ -172,6 +132,5 @@ pub(crate) fn judge_groups(
         judge_quad(work, span, n, s, runs, params);
         i = after;
         j = lone_after;
-        s += 1;
     }
 }

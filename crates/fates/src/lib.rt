@@ -2,6 +2,7 @@
 // `inner` has it for the calls that write it out.
 #![tactic(auto)]
 
+mod fate_words;
 mod gather;
 pub mod inner;
 mod judge;
@@ -9,7 +10,7 @@ mod lone;
 mod prepare;
 
 // The least quads of a group and the least listed corners of a component.
-#[derive(Clone, Copy)]
+#[derive(Clone, Copy, Debug, PartialEq, Eq)]
 pub struct LabelParams {
     pub quads: u32,
     pub corners: u32,
@@ -17,7 +18,7 @@ pub struct LabelParams {
 
 // What becomes of a quad's group, told at its lowest quad: the first that applies, in this order. With a labelling, also how many pairs are
 // claimed by several corners.
-#[derive(Clone, Copy)]
+#[derive(Clone, Copy, Debug, PartialEq, Eq)]
 pub enum Fate {
     NotLowest,
     TooFewQuads,
@@ -27,14 +28,14 @@ pub enum Fate {
 }
 
 // Records of corners in the workspace: where the first of them stands, and how many they are.
-#[derive(Clone, Copy)]
+#[derive(Clone, Copy, Debug, PartialEq, Eq)]
 pub struct Run {
     pub at: usize,
     pub count: usize,
 }
 
 // The records of one group: of its lone corners, and of all that its walk reached.
-#[derive(Clone, Copy)]
+#[derive(Clone, Copy, Debug, PartialEq, Eq)]
 pub struct Runs {
     pub lone: Run,
     pub all: Run,

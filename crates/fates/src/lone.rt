@@ -1,10 +1,10 @@
 // Of records of two words (key, corner and seed), those that no other has the seed and key of: once the records are in order, such ones
 // differ from both neighbours. They go, in order, to the place of the table of the sides.
-ghost use Rattle.std.specs.Prelude.{◌+◌, ◌*◌, ◌≤◌, ◌<◌, length};
+ghost use Rattle.std.specs.Prelude.{◌+◌, ◌*◌, ◌≤◌, ◌<◌, ◌↔◌, IsTrue, length};
 ghost use Rattle.words.specs.inner.Order.{Room};
 ghost use Rattle.words.specs.inner.Regions.{Kept};
 ghost use Rattle.fates.specs.inner.Fates.{records_at, lone_at};
-ghost use Rattle.fates.specs.inner.Singles.{Follows, Unique, Tells, SeedOrder, Picks, Picked, Batch, LoneFrom};
+ghost use Rattle.fates.specs.inner.Singles.{Follows, Unique, SeedOrder, Picked, Batch, LoneFrom};
 
 use laying::inner::layout::{RECORDS, SEEDS};
 use words::inner::order::{carry, order_in_groups};
@@ -12,45 +12,23 @@ use words::inner::order::{carry, order_in_groups};
 // Whether record k of those from a on has the seed and key of the one before it.
 pub(crate) fn follows(work: &[u32], a: usize, k: usize) -> bool
     requires { a + 2 * k + 1 < length work.now }
-    ensures { Tells (Follows work.now a k) result }
+    ensures { IsTrue result ↔ Follows work.now a k }
 {
     if k == 0 {
         return false;
     }
     let at = a + 2 * k;
     let before = a + 2 * (k - 1);
-    if work[before] != work[at] {
-        return false;
-    }
-    work[before + 1] % SEEDS == work[at + 1] % SEEDS
+    work[before] == work[at] && work[before + 1] % SEEDS == work[at + 1] % SEEDS
 }
 
 // Whether no other of the m ordered records from a on has the seed and key of record k.
 fn is_lone(work: &[u32], a: usize, m: usize, k: usize) -> bool
     requires m_in_bounds { (a + 2 * m ≤ length work.now) × (k < m) }
     requires seed_order { SeedOrder work.now a m }
-    ensures { Tells (Unique work.now a m k) result }
+    ensures { IsTrue result ↔ Unique work.now a m k }
 {
-    if follows(work, a, k) {
-        return false;
-    }
-    if k + 1 == m {
-        return true;
-    }
-    !follows(work, a, k + 1)
-}
-
-// Record k, if it is lone, goes behind the r that stand from b on; answers how many stand there.
-fn keep_at(work: &mut [u32], a: usize, b: usize, m: usize, k: usize, r: usize) -> usize
-    requires room { Room work.old a b m × (r ≤ k) × (k < m) }
-    requires seed_order { SeedOrder work.old a m }
-    ensures { Picks work.old work.new a b m k r result }
-{
-    if is_lone(work, a, m, k) {
-        carry(work, a + 2 * k, b + 2 * r);
-        return r + 1;
-    }
-    r
+    !follows(work, a, k) && (k + 1 == m || !follows(work, a, k + 1))
 }
 
 // The lone ones of the m ordered records from a on go to b, in order; answers how many they are.
@@ -60,10 +38,11 @@ fn keep_lone(work: &mut [u32], a: usize, b: usize, m: usize) -> usize
     ensures { Kept work.old work.new b (2 * m) × Picked work.old work.new a b m m result }
 {
     let mut r = 0;
-    let mut k = 0;
-    while k < m {
-        r = keep_at(work, a, b, m, k, r);
-        k += 1;
+    for k in 0..m {
+        if is_lone(work, a, m, k) {
+            carry(work, a + 2 * k, b + 2 * r);
+            r += 1;
+        }
     }
     r
 }

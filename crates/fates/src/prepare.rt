@@ -5,33 +5,25 @@ ghost use Rattle.std.specs.Prelude.{◌≡◌, ℕ, ◌+◌, ◌*◌, ◌-◌, �
 ghost use Rattle.mesh.specs.Lists.{most_corners};
 ghost use Rattle.words.specs.inner.Regions.{Filled};
 ghost use Rattle.words.specs.Sorting.{equal};
-ghost use Rattle.laying.specs.inner.Layout.{key_at, Given};
+ghost use Rattle.laying.specs.inner.Layout.{key_at};
 ghost use Rattle.fates.specs.inner.Fates.{groups_at};
 ghost use Rattle.fates.specs.inner.Runs.{Rising, Told, Started};
 ghost use Rattle.fates.specs.inner.Prepared.{Sided, Ready};
 
 use cells::inner::groups;
 use laying::inner::layout::{FLAGS, GROUPS, RUNS};
-use words::inner::{fill_zero, wide};
-
-// The `count` words from `at` on are 0.
-fn zero_from(work: &mut [u32], at: usize, count: usize)
-    requires { at + count ≤ length work.old }
-    ensures { Filled work.old work.new at count count (λ (k : ℕ). 0) }
-{
-    fill_zero(&mut work[at..at + count]);
-}
+use laying::inner::sheet::Sheet;
 
 // The groups, with no quad marked, and the ordered table after them. Their part of the workspace begins inside the second words, so
 // that the table stands where the walk reads it.
-fn list_groups(quads: &[u32], work: &mut [u32], span: usize, n: usize)
-    requires given { Given span quads.now n }
-    requires n_in_bounds { 4 * span + 26 * n ≤ length work.old }
-    ensures { Sided span quads.now n work.old work.new }
+fn list_groups(sheet: Sheet<'_>, work: &mut [u32])
+    requires { 4 * sheet.span + 26 * sheet.count ≤ length work.old }
+    ensures { let s = sheet.entry in Sided s.span s.quads.now s.count work.old work.new }
 {
-    let at = 4 * span - 2 * n;
-    zero_from(work, at, n);
-    groups(quads, 4, n, &mut work[at..at + 18 * n]);
+    let n = sheet.count;
+    let at = 4 * sheet.span - 2 * n;
+    work[at..at + n].fill(0);
+    groups(sheet.quads, 4, n, &mut work[at..at + 18 * n]);
 }
 
 // From right before the table to their own place.
@@ -39,11 +31,7 @@ fn move_groups(work: &mut [u32], span: usize, n: usize)
     requires { (4 * span + 26 * n ≤ length work.old) × (n ≤ span) × (span ≤ most_corners) }
     ensures { Filled work.old work.new (groups_at span n) n n (λ (q : ℕ). get_or work.old (4 * span - n + q) 0) }
 {
-    let mut q = 0;
-    while q < n {
-        work[4 * span + GROUPS * n + q] = work[4 * span - n + q];
-        q += 1;
-    }
+    work.copy_within(4 * span - n..4 * span, 4 * span + GROUPS * n);
 }
 
 // Where the run of place i begins, with the last run begun at f.
@@ -63,12 +51,10 @@ fn tell_runs(work: &mut [u32], span: usize, n: usize)
     ensures { Told span n work.old work.new (4 * n) }
 {
     let mut f = 0;
-    let mut i = 0;
-    while i < 4 * n {
+    for i in 0..4 * n {
         f = run_start(work, span, f, i);
-        let e = wide(work[4 * span + 2 * i + 1]);
+        let e = work[4 * span + 2 * i + 1] as usize;
         work[4 * span + RUNS * n + e] = f as u32;
-        i += 1;
     }
 }
 
@@ -79,11 +65,9 @@ fn tally_groups(work: &mut [u32], at: usize, n: usize)
     requires cleared { (s : ℕ) → s < n → get_or work.old (at + n + s) 0 ≡ 0 }
     ensures { Filled work.old work.new (at + n) n n (equal (λ (q : ℕ). get_or work.old (at + q) 0) n) }
 {
-    let mut q = 0;
-    while q < n {
-        let s = wide(work[at + q]);
+    for q in 0..n {
+        let s = work[at + q] as usize;
         work[at + n + s] += 1;
-        q += 1;
     }
 }
 
@@ -93,20 +77,22 @@ fn count_members(work: &mut [u32], at: usize, n: usize)
     requires by_index { (q : ℕ) → q < n → get_or work.old (at + q) 0 < n }
     ensures { Filled work.old work.new (at + n) n n (equal (λ (q : ℕ). get_or work.old (at + q) 0) n) }
 {
-    zero_from(work, at + n, n);
+    work[at + n..at + n + n].fill(0);
     tally_groups(work, at, n);
 }
 
 // The front is made zero last, since the groups were listed at its end.
-pub(crate) fn prepare(quads: &[u32], work: &mut [u32], span: usize, n: usize)
-    requires given { Given span quads.now n }
-    requires n_in_bounds { 4 * span + 26 * n ≤ length work.old }
-    ensures { Ready span quads.now n work.new }
+pub(crate) fn prepare(sheet: Sheet<'_>, work: &mut [u32])
+    requires { 4 * sheet.span + 26 * sheet.count ≤ length work.old }
+    ensures { let s = sheet.entry in Ready s.span s.quads.now s.count work.new }
 {
-    list_groups(quads, work, span, n);
-    tell_runs(work, span, n);
-    move_groups(work, span, n);
-    count_members(work, 4 * span + GROUPS * n, n);
-    zero_from(work, 0, 4 * span);
-    zero_from(work, 4 * span + FLAGS * n, 4 * n);
+    let n = sheet.count;
+    let table = 4 * sheet.span;
+    let flags = table + FLAGS * n;
+    list_groups(sheet, work);
+    tell_runs(work, sheet.span, n);
+    move_groups(work, sheet.span, n);
+    count_members(work, table + GROUPS * n, n);
+    work[..table].fill(0);
+    work[flags..flags + 4 * n].fill(0);
 }

@@ -1,5 +1,5 @@
 -- Records of two words that are single, so that no other has the same seed and key; and what picking them out of ordered records leaves.
-use Rattle.std.specs.Prelude.{◌≡◌, Bool, true, false, List, ℕ, ◌+◌, ◌*◌, ◌≤◌, ◌<◌, length, get_or, set}
+use Rattle.std.specs.Prelude.{◌≡◌, List, ℕ, ◌+◌, ◌*◌, ◌≤◌, ◌<◌, length}
 use Rattle.words.specs.inner.Order.{word_of, grouped_of, Ordered}
 use Rattle.fates.specs.inner.Fates.{records_at, key_in, seed_in}
 
@@ -18,20 +18,10 @@ pub record Follows (w : List ℕ) (a k : ℕ) : Type 0 where
   pub next : before + 1 ≡ k
   pub alike : Alike w a before k
 
--- r tells whether P holds
-pub record Tells (P : Type 0) (r : Bool) : Type 0 where
-  pub holds : r ≡ true → P
-  pub fails : r ≡ false → P → ⊥
-
 -- the m records from a on ascend by seed and key
 pub record SeedOrder (w : List ℕ) (a m : ℕ) : Type 0 where
   pub small : (k : ℕ) → k < m → key_in w a k < 4294967296
   pub rises : (j k : ℕ) → j ≤ k → k < m → grouped_of w a j ≤ grouped_of w a k
-
--- record k is copied to place r of those from b on, if it is single
-pub data Picks (xs ys : List ℕ) (a b m k r : ℕ) : ℕ → Type 0 where
-  left : (Unique xs a m k → ⊥) → ys ≡ xs → Picks xs ys a b m k r r
-  took : Unique xs a m k → ys ≡ set (set xs (b + 2 * r) (get_or xs (a + 2 * k) 0)) (b + 2 * r + 1) (get_or xs (a + 2 * k + 1) 0) → Picks xs ys a b m k r (r + 1)
 
 -- record i of those from b on in ys is record k of those from a on in xs
 pub record CopyOf (xs ys : List ℕ) (a b k i : ℕ) : Type 0 where

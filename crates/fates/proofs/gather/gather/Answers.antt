@@ -10,18 +10,18 @@ any : LabelParams
 any = record { quads = 0; corners = 0 }
 
 pub loop-seed-init : goal.loop-seed-init
-loop-seed-init c = (omega arith, refl, λ params. underway_start params c.requires.given.1 c.requires.ready)
+loop-seed-init c = (refl, λ params. underway_start params c.requires.n_in_bounds c.requires.ready)
 
-pub gather_seed-m-requires : goal.gather_seed-m-requires
-gather_seed-m-requires c = record { given = (c.requires.given.0, c.loop-seed-test.true); begun = record { number = _; params = any; underway = c.loop-seed.invariant.2 any } }
+pub gather_seed-m-requires-clause-begun : goal.gather_seed-m-requires-clause-begun
+gather_seed-m-requires-clause-begun c = record { number = _; params = any; underway = c.loop-seed.invariant.1 any }
 
 pub loop-seed-preserved : goal.loop-seed-preserved
 loop-seed-preserved c =
     let l = c.loop-seed in
-    (omega arith, c.gather_seed-m.auto.work ∙ l.invariant.1, λ params. c.gather_seed-m.ensures _ params (l.invariant.2 params))
+    (c.gather_seed-m.auto.work ∙ l.invariant.0, λ params. c.gather_seed-m.ensures _ params (l.invariant.1 params))
 
 pub returns : goal.returns
 returns c =
     let l = c.loop-seed in
-    let e : l.seed ≡ c.args.n = omega (arith, l.invariant.0, c.loop-seed-test.false) in
-    record { len = l.invariant.1; numbers = (l.invariant.2 any).numbers; gathered = λ params. rw e at (l.invariant.2 params).gathered }
+    let e : l.seed ≡ c.args.sheet.count = omega arith in
+    record { len = l.invariant.0; numbers = (l.invariant.1 any).numbers; gathered = λ params. rw e at (l.invariant.1 params).gathered }

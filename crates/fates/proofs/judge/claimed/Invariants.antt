@@ -1,12 +1,9 @@
 -- `claimed`: those of the first k records that begin a claim are counted.
-use Prim.Native.Nat.{◌-◌, ◌≤◌}
+use Prim.Native.Nat.{◌≤◌}
 use Rattle.cells.specs.Counted.{Exactly}
 use Rattle.cells.proofs.Counted.{Below}
 use Rattle.fates.specs.inner.Judging.{Begins}
 use Rattle.fates.proofs.judge.claimed.Given as goal
 
 abbrev pub invariant-loop-k : goal.invariant-loop-k
-invariant-loop-k l = (l.k ≤ l.run.count) × (l.claims ≤ l.k) × Exactly (Below (Begins l.work l.run.at l.run.count) l.k) l.claims
-
-abbrev pub decreases-loop-k : goal.decreases-loop-k
-decreases-loop-k l = l.run.count - l.k
+invariant-loop-k l = (l.claims ≤ l.k) × Exactly (Below (Begins l.work l.run.at l.run.count) l.k) l.claims

@@ -1,28 +1,18 @@
 -- `keep_lone`: of the first k records the single ones are picked.
-use mathlib.Core.Path.{◌≡◌}
 use native.Mathlib.Omega.{arith}
-use Rattle.fates.proofs.Picking.{same_room, rising_kept, picked_none, picked_more}
+use Rattle.std.proofs.lemmas.Bool.Decides.{not_from_Decides}
+use Rattle.fates.proofs.Picking.{rising_kept, picked_left, picked_took}
 use Rattle.fates.proofs.lone.keep_lone.Goals as goal
+use Rattle.fates.proofs.lone.keep_lone.Goals.{then-is_lone, else-is_lone}
 
-pub loop-k-init : goal.loop-k-init
-loop-k-init c =
-    let z = c.args in
-    let p = picked_none z.work.now z.a z.b z.m in
-    (omega arith, p.0, p.1)
-
-pub keep_at-r-requires : goal.keep_at-r-requires
-keep_at-r-requires c =
-    let l = c.loop-k in
-    record { room = (same_room l.invariant.1.len c.requires.room, l.invariant.2.few, omega arith); seed_order = rising_kept l.invariant.1 c.requires.room c.requires.seed_order }
+pub is_lone-requires-clause-seed_order : goal.is_lone-requires-clause-seed_order
+is_lone-requires-clause-seed_order c = rising_kept c.loop-k.invariant.0 c.requires.room c.requires.seed_order
 
 pub loop-k-preserved : goal.loop-k-preserved
 loop-k-preserved c =
     let l = c.loop-k in
-    let p = picked_more _ _ _ _ _ _ _ _ c.requires.room c.requires.seed_order (omega arith) l.invariant.1 l.invariant.2 c.keep_at-r.ensures in
-    (omega arith, p.0, p.1)
-
-pub returns : goal.returns
-returns c =
-    let l = c.loop-k in
-    let e : l.k ≡ c.args.m = omega arith in
-    (l.invariant.1, rw e at l.invariant.2)
+    let t = c.is_lone.ensures in
+    elim c.if-is_lone.branch [
+      | then-is_lone w ↦ rw (w.work-is, w.r-is, w.carry.ensures) (picked_took _ _ _ _ _ _ _ c.requires.room c.requires.seed_order (omega arith) l.invariant.0 l.invariant.1 (t.0 w.if-is_lone.true))
+      | else-is_lone w ↦ rw (w.work-is, w.r-is) (picked_left _ _ _ _ _ _ _ c.requires.room c.requires.seed_order (omega arith) l.invariant.0 l.invariant.1 (not_from_Decides _ t w.if-is_lone.false))
+    ]

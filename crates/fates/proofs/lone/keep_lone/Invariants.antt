@@ -1,11 +1,8 @@
 -- `keep_lone`: of the first k records the single ones are picked.
-use Prim.Native.Nat.{◌*◌, ◌-◌, ◌≤◌}
+use Prim.Native.Nat.{◌*◌}
 use Rattle.words.specs.inner.Regions.{Kept}
 use Rattle.fates.specs.inner.Singles.{Picked}
 use Rattle.fates.proofs.lone.keep_lone.Given as goal
 
 abbrev pub invariant-loop-k : goal.invariant-loop-k
-invariant-loop-k l = (l.k ≤ l.m) × Kept l.initial.work l.work l.b (2 * l.m) × Picked l.initial.work l.work l.a l.b l.m l.k l.r
-
-abbrev pub decreases-loop-k : goal.decreases-loop-k
-decreases-loop-k l = l.m - l.k
+invariant-loop-k l = Kept l.initial.work l.work l.b (2 * l.m) × Picked l.initial.work l.work l.a l.b l.m l.k l.r

@@ -1,11 +1,6 @@
 -- `list_lone`: the ordering, and then the picking.
-use Rattle.fates.proofs.Picking.{same_room, batch_room, ordered_rises, lone_from}
+use Rattle.fates.proofs.Picking.{same_room, batch_room, lone_from}
 use Rattle.fates.proofs.lone.list_lone.Goals as goal
-
-pub keep_lone-requires : goal.keep_lone-requires
-keep_lone-requires c =
-    let o = c.order_in_groups.ensures in
-    record { room = same_room o.len (batch_room c.requires); seed_order = ordered_rises _ _ _ _ _ o c.requires.small }
 
 pub returns : goal.returns
 returns c =

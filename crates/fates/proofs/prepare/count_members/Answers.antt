@@ -1,10 +1,8 @@
 -- `count_members` clears its region and counts in it.
-use Rattle.fates.proofs.Members.{key_small, counted_zeros}
-use borrow.Author.Rules.{rules}
+use native.Mathlib.Omega.{arith}
+use Rattle.words.proofs.Regions.{filled_zero}
+use Rattle.fates.proofs.Members.{counted_zeros}
 use Rattle.fates.proofs.prepare.count_members.Goals as goal
 
-pub tally_groups-requires : goal.tally_groups-requires
-tally_groups-requires c = record { n_in_bounds = search rules; by_index = key_small _ _ _ _ c.zero_from.ensures c.requires.by_index; cleared = c.zero_from.ensures.holds }
-
 pub returns : goal.returns
-returns c = counted_zeros _ _ _ _ c.zero_from.ensures _ c.tally_groups.ensures
+returns c = counted_zeros _ _ _ _ (filled_zero _ _ _ _ (omega arith) (c.fill.ensures.after (λ y e. e))) _ c.tally_groups.ensures

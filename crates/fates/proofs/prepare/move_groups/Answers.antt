@@ -1,14 +1,7 @@
--- `move_groups`: the first q stand in their new place.
-use mathlib.Core.Path.{◌≡◌}
+-- `move_groups`: the copied words stand in their new place.
 use native.Mathlib.Omega.{arith}
-use Rattle.words.proofs.Regions.{filled_more}
-use borrow.Author.Rules.{rules}
+use Rattle.fates.proofs.Ready.{filled_copy}
 use Rattle.fates.proofs.prepare.move_groups.Goals as goal
 
-pub loop-q-preserved : goal.loop-q-preserved
-loop-q-preserved c = (omega arith, filled_more c.loop-q.invariant.1 c.loop-q-test.true (search rules) (c.loop-q.invariant.1.kept.rest _ (λ j l e. omega arith)))
-
 pub returns : goal.returns
-returns c =
-    let e : c.loop-q.q ≡ c.args.n = omega arith in
-    rw e at c.loop-q.invariant.1
+returns c = filled_copy _ _ _ _ _ _ (omega arith) c.copy_within.ensures.len c.copy_within.ensures.by_index
