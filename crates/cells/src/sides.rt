@@ -1,6 +1,6 @@
-// The table of the sides of cells of 3 or 4 corners: two words for each, a key that says its ends and a number that says whose it is.
-// In order of keys, the sides of one key stand together, and their cells are made one group. In the workspace marks stand at 0, groups at n, the table at 2 * n, and room for its ordering after it. The routines that link cells take
-// it and n as they are: what they are asked for (`Ready`) is a fact of the workspace, which they change, and of no value of its own.
+// The table of the sides of cells of 3 or 4 corners: two words for each, a key that says its ends and a number that says whose it is. In
+// order of keys, the sides of one key stand together, and their cells are made one group. In the workspace marks stand at 0, groups at n,
+// the table at 2 * n, and room for its ordering after it.
 ghost use Rattle.std.specs.Prelude.{◌≡◌, List, ℕ, ◌+◌, ◌*◌, ◌-◌, ◌%◌, ◌≤◌, ◌<◌, length};
 ghost use Rattle.cells.specs.Cells.{Has};
 ghost use Rattle.cells.specs.inner.Forest.{Classes};
@@ -95,7 +95,8 @@ impl<'a> Cells<'a> {
     }
 }
 
-// Records h and h + 1: where they have one key, and it is a side's, their cells are joined.
+// Records h and h + 1: where they have one key, and it is a side's, their cells are joined. This and the two below take the workspace and n
+// as they are: what is asked of them (`Ready`) is a fact of the workspace, which they change, and of no value of its own.
 fn link_at(work: &mut [u32], n: usize, h: usize)
     requires ready { Ready n (h + 2) work.old }
     requires classes { Classes (Adjacent n work.old h) n (groups_of n work.old) }
