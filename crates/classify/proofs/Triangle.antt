@@ -1,8 +1,7 @@
 -- A triangle's three words, or fits, stored behind those of the triangles before it, are what its half-edges have by definition. Assumes
 -- nothing.
 use Rattle.std.specs.Prelude.{Option}
-use Rattle.std.specs.Borrow.{Bor}
-use mathlib.Core.Path.{◌≡◌, refl, sym, ap, ◌∙◌, subst}
+use mathlib.Core.Path.{◌≡◌, refl, sym, ap, ◌∙◌}
 use mathlib.Core.Logic.{◌⊎◌, inl, inr}
 use mathlib.Core.List.{List, [], ◌∷◌}
 use Prim.Native.Nat.{ℕ, ◌+◌, ◌*◌, ◌<◌}
@@ -53,7 +52,7 @@ module _ {A : Type 0} (none : A) where
       rw (put, is) (rw last at three)
 
 -- nothing is stored in a list without places
-pub put_none : (l : List Float) (e : ℕ) (own : Three Float) → length l ≡ 0 → l ≡ stored l e own
+put_none : (l : List Float) (e : ℕ) (own : Three Float) → length l ≡ 0 → l ≡ stored l e own
 put_none [] e own h = refl
 put_none (x ∷ l) e own h = absurd (omega arith)
 

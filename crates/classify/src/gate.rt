@@ -30,7 +30,7 @@ fn values_gate(corners: Positions<'_>, triangles: &[u32], params: EdgeParams) ->
     twice_row(triangles, 3)
 }
 
-#[tactic(auto, unfolding(crate::specs::Call::gate_of))]
+#[tactic(auto, using(crate::proofs::Sound::lengths_open), unfolding(crate::specs::Call::gate_of))]
 fn judge(
     corners: Positions<'_>,
     axes: Axes<'_>,

@@ -1,6 +1,6 @@
 // One half-edge: its match at a corner, its judgement, the class that the judgements of a triangle give it, and its fit.
 ghost use Rattle.std.specs.Prelude.{◌≡◌};
-ghost use Rattle.classify.specs.Match.{offered, nearer, match_of, side_of, greater_of, judged_of, class_by, class_number};
+ghost use Rattle.classify.specs.Match.{offered, nearer, match_of, side_of, greater_of, judged_of, class_by};
 ghost use Rattle.classify.specs.Fits.{fit_of};
 
 use crate::{Class, GridSide, Near, Side};
@@ -23,16 +23,15 @@ fn nearest(slot0: Option<f32>, slot1: Option<f32>) -> Option<Near>
     ensures { result ≡ nearer slot0 slot1 }
 {
     match (slot0, slot1) {
-        (Some(d0), Some(d1)) => {
-            if d1 < d0 {
-                Some(Near { slot: 1, distance: d1 })
-            } else {
-                Some(Near { slot: 0, distance: d0 })
-            }
-        }
-        (Some(d0), None) => Some(Near { slot: 0, distance: d0 }),
-        (None, Some(d1)) => Some(Near { slot: 1, distance: d1 }),
-        (None, None) => None,
+        (Some(d0), Some(d1)) if d1 < d0 => Some(Near {
+            slot: 1,
+            distance: d1,
+        }),
+        (Some(d0), _) => Some(Near {
+            slot: 0,
+            distance: d0,
+        }),
+        (None, d1) => d1.map(|distance| Near { slot: 1, distance }),
     }
 }
 
@@ -71,37 +70,29 @@ pub(crate) fn judge_side(side: Side, tolerance: f32) -> Option<GridSide>
     let start = side.start?;
     let end = side.end?;
     if start.distance < tolerance && end.distance < tolerance {
-        let fit = greater(start.distance, end.distance);
-        return Some(GridSide {
+        Some(GridSide {
             start: start.slot,
             end: end.slot,
-            fit,
-        });
+            fit: greater(start.distance, end.distance),
+        })
+    } else {
+        None
     }
-    None
 }
 
 // The class of a half-edge, from its own judgement and those of the next two in its triangle.
 #[tactic(auto, unfolding(crate::specs::Match::class_by))]
-pub(crate) fn class_of(own: Option<GridSide>, next: Option<GridSide>, last: Option<GridSide>) -> Class
+pub(crate) fn class_of(
+    own: Option<GridSide>,
+    next: Option<GridSide>,
+    last: Option<GridSide>,
+) -> Class
     ensures { result ≡ class_by own next last }
 {
     match (own, next, last) {
         (Some(_), _, _) => Class::Grid,
         (None, Some(next), Some(last)) if next.end != last.start => Class::Diagonal,
         _ => Class::Spurious,
-    }
-}
-
-impl From<Class> for u32 {
-    ghost from_gives = { λ class word. word ≡ class_number class };
-
-    fn from(class: Class) -> u32 {
-        match class {
-            Class::Spurious => 0,
-            Class::Grid => 1,
-            Class::Diagonal => 2,
-        }
     }
 }
 

@@ -5,11 +5,10 @@ ghost use Rattle.classify.specs.inner.Triangle.{Sound, sides_at, judgement_of, c
 ghost use Rattle.classify.specs.Three.{stored};
 ghost use Rattle.classify.specs.Classes.{angle_between, classes_of, given};
 ghost use Rattle.classify.specs.Call.{lengths_given};
-ghost use Rattle.classify.specs.Match.{class_from};
 
 use crate::half_edge::{class_of, fit_of, judge_side, side_of};
 use crate::three::Three;
-use crate::{Class, EdgeParams, GridSide, Side};
+use crate::{EdgeParams, GridSide, Side};
 use axis::Axes;
 use axis::inner::cache_at;
 use mesh::Positions;
@@ -17,17 +16,6 @@ use mesh::inner::lists::{
     MOST_CORNERS, MOST_HALF_EDGES, doubled_row, limit_row, paired_row, whole_row,
 };
 use refusal::Refusal;
-
-// The class that a word of a class list stands for.
-pub fn class_from(word: u32) -> Class
-    ensures { result ≡ class_from word }
-{
-    match word {
-        0 => Class::Spurious,
-        1 => Class::Grid,
-        _ => Class::Diagonal,
-    }
-}
 
 // Rows 1 and 2, where a list has as many words as `paired`, one for each half-edge: classes here, twins in a frame.
 #[tactic(auto, unfolding(crate::specs::Call::lengths_gate))]
@@ -59,6 +47,8 @@ fn angle_between(corners: Positions<'_>, a: usize, b: usize) -> f32
 }
 
 // Triangle t's sides, each with both slots and both distances. `write_triangles` hands on what is asked.
+// `Sound` stands in three contracts and not in a type: this one and `classify_triangles` are told by the lists (docs/CALLS.md), and a type
+// would ask more of their callers.
 pub fn judge_triangle(
     corners: Positions<'_>,
     axes: Axes<'_>,
@@ -113,7 +103,8 @@ fn fits_by(judged: Three<Option<GridSide>>) -> Three<f32>
     judged.map(|own| fit_of(own))
 }
 
-// A triangle's fits into the fit list, where one is lent: `write_triangles` has one without places, or with every place.
+// A triangle's fits into the fit list: `write_triangles` has one without places, or with every place. An `Option` of a list is no plainer:
+// what becomes of the list behind it a contract can say only of its `exit`, by nested sums.
 fn tell_fits(fits: &mut [f32], e: usize, judged: Three<Option<GridSide>>)
     requires { (length fits.old ≡ 0) ⊎ (e + 2 < length fits.old) }
     ensures { fits.new ≡ stored fits.old e (fits_by judged) }

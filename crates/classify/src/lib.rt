@@ -1,6 +1,6 @@
 // Classes of half-edges: Grid where both ends have an axis near enough, Diagonal across two such sides, else Spurious; and how well the
 // Grid ones fit.
-// `classify_all_edges` is the call; `inner` has the stage without its checks and the judgement of one triangle.
+// `classify_all_edges` is the call; `inner` has the stage without its checks, the judgement of one triangle, and rows 1 and 2.
 #![tactic(auto)]
 
 ghost use Rattle.std.specs.Prelude.{◌≡◌};
@@ -16,6 +16,7 @@ use refusal::Refusal;
 mod gate;
 mod half_edge;
 pub mod inner;
+mod numbers;
 pub mod three;
 
 #[derive(Clone, Copy, Debug, PartialEq, Eq)]
@@ -26,21 +27,21 @@ pub enum Class {
 }
 
 // An informative axis at a corner, the nearest there: its slot and its distance.
-#[derive(Clone, Copy)]
+#[derive(Clone, Copy, Debug, PartialEq)]
 pub struct Near {
     pub slot: u32,
     pub distance: f32,
 }
 
 // A half-edge with what is nearest at the corner it runs from and at the one it runs to.
-#[derive(Clone, Copy)]
+#[derive(Clone, Copy, Debug, PartialEq)]
 pub struct Side {
     pub start: Option<Near>,
     pub end: Option<Near>,
 }
 
 // A half-edge that is Grid: the slots at its start and its end, and the greater of its distances there.
-#[derive(Clone, Copy)]
+#[derive(Clone, Copy, Debug, PartialEq)]
 pub struct GridSide {
     pub start: u32,
     pub end: u32,

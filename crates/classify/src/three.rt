@@ -2,7 +2,7 @@
 ghost use Rattle.std.specs.Prelude.{◌≡◌, ◌+◌, ◌<◌, length};
 ghost use Rattle.classify.specs.Three.{stored};
 
-#[derive(Clone, Copy)]
+#[derive(Clone, Copy, Debug, PartialEq, Eq)]
 pub struct Three<T> {
     pub first: T,
     pub second: T,
@@ -10,7 +10,7 @@ pub struct Three<T> {
 }
 
 impl<T: Copy> Three<T> {
-    pub fn map<U, F: Fn(T) -> U>(self, f: F) -> Three<U>
+    pub(crate) fn map<U, F: Fn(T) -> U>(self, f: F) -> Three<U>
         requires { F.IsAlwaysCallable f }
         ensures { F.post f self.first result.first × F.post f self.second result.second × F.post f self.third result.third }
     {
@@ -22,7 +22,7 @@ impl<T: Copy> Three<T> {
     }
 
     // Into a list, from place e on.
-    pub fn store(self, list: &mut [T], e: usize)
+    pub(crate) fn store(self, list: &mut [T], e: usize)
         requires { e + 2 < length list.old }
         ensures { list.new ≡ stored list.old e self }
     {

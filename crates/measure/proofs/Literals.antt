@@ -51,3 +51,5 @@ reach = refl
 pub range : bits 0x4980_0000 ≡ fraction 1048576 1
 unfolding of_bits round
 range = refl
+
+pub ruleset literals = (p1, m3, p5, m7, p9, m11, p13, m15, bend, four, reach, range)

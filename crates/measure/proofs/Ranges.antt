@@ -1,42 +1,26 @@
--- The code's tests of a range are the ranges of the definitions: finite, NaN, above zero, within a magnitude. Assumes nothing.
-use mathlib.Core.Path.{◌≡◌, refl, sym, ◌∙◌}
-use mathlib.Core.Bool.{Bool, true, false, cond, not, ◌&&◌, ◌||◌, and-true}
-use Prim.Native.Nat.{ℕ, zero, suc, ◌+◌, ◌*◌, ◌<◌}
+-- The code's tests of a range are the ranges of the definitions: finite, above zero, equal to zero. Assumes nothing.
+use mathlib.Core.Path.{◌≡◌, refl}
+use mathlib.Core.Bool.{Bool, true, false, ◌&&◌}
+use Prim.Native.Nat.{ℕ, zero, suc, ◌*◌, ◌<◌}
 use native.Mathlib.Nat.{mul-pos, zero-lt-suc}
 use native.Mathlib.Omega.{arith}
-use borrow.Author.Tests.{lt-ltb, le-ltb, eqb-true, eqb-false, eq-eqb, ne_eqb}
-use lib.Dec.{T, ltb, eqb}
+use borrow.Author.Tests.{lt-ltb, le-ltb, ne_eqb}
+use lib.Dec.{eqb}
 use lib.IntN.{ℤ}
-use lib.Ieee.{Float, nan, inf, fin, binary32, of_bits, is_nan, le, lt, eq, ne, neg, div, up, down}
+use lib.Ieee.{Float, nan, inf, fin, binary32, of_bits, lt, eq, up, down}
 use lib.Ieee.Fits.{up_pos}
 use lib.Ieee.Positive.{positive}
 use lib.Ieee.Scale.{finite}
-use Rattle.measure.specs.Float.{sign_of, within}
+use Rattle.std.specs.Float.{float_is_finite}
 
--- the two infinities as the code makes them
-abbrev most : Float
-most = div binary32 (of_bits binary32 0x3f80_0000) (of_bits binary32 0)
+pub finite_is : (x : Float) → float_is_finite x ≡ finite x
+unfolding float_is_finite
+finite_is nan = refl
+finite_is (inf s) = refl
+finite_is (fin s m e) = refl
 
-abbrev least : Float
-least = div binary32 (neg (of_bits binary32 0x3f80_0000)) (of_bits binary32 0)
-
-pub finite_by : (x : Float) → cond (lt x most) (lt least x) false ≡ finite x
-unfolding lt div of_bits neg
-finite_by nan = refl
-finite_by (inf true) = refl
-finite_by (inf false) = refl
-finite_by (fin s m e) = refl
-
-pub nan_by : (x : Float) → ne x x ≡ is_nan x
-unfolding ne eq is_nan
-nan_by nan = refl
-nan_by (inf true) = refl
-nan_by (inf false) = refl
-nan_by (fin true m e) = rw (eq-eqb _ _ refl)
-nan_by (fin false m e) = rw (eq-eqb _ _ refl)
-
-pub positive_by : (x : Float) → cond (lt (of_bits binary32 0) x) (lt x most) false ≡ positive x
-unfolding lt div of_bits
+pub positive_by : (x : Float) → (lt (of_bits binary32 0) x && finite x) ≡ positive x
+unfolding lt of_bits
 positive_by nan = refl
 positive_by (inf true) = refl
 positive_by (inf false) = refl
@@ -59,28 +43,3 @@ pub eq_none : (s : Bool) (e : ℤ) → eq (fin s zero e) (of_bits binary32 0) �
 unfolding eq of_bits
 eq_none true e = let z : 0 * up e * 1 ≡ 0 = omega arith in let y : 0 * down e ≡ 0 = omega arith in rw (z, y)
 eq_none false e = let z : 0 * up e * 1 ≡ 0 = omega arith in let y : 0 * down e ≡ 0 = omega arith in rw (z, y)
-
--- ---- within a magnitude: x ≤ most and -most ≤ x
-
-some : (a b : ℕ) → (ltb 0 (a + b) || (eqb a b && eqb a 0)) ≡ true
-some zero zero = refl
-some (suc a) b = rw (lt-ltb 0 (suc a + b) (omega arith))
-some zero (suc b) = rw (lt-ltb 0 (zero + suc b) (omega arith))
-
-eqb_sym : (a b : ℕ) → eqb a b ≡ eqb b a
-eqb_sym a b = go (eqb a b) refl
-  where
-    go : (t : Bool) → eqb a b ≡ t → eqb a b ≡ eqb b a
-    go true e = e ∙ sym (eq-eqb b a (sym (eqb-true a b e)))
-    go false e = e ∙ sym (ne_eqb b a (λ q. eqb-false a b e (sym q)))
-
-pub within_by : (x top : Float) → T (finite top && not (sign_of top)) → (le x top && le (neg top) x) ≡ within top x
-unfolding within le lt eq neg
-within_by x nan h = absurd h
-within_by x (inf s) h = absurd h
-within_by x (fin true n d) h = absurd h
-within_by nan (fin false n d) h = refl
-within_by (inf true) (fin false n d) h = refl
-within_by (inf false) (fin false n d) h = refl
-within_by (fin false m e) (fin false n d) h = rw (some (n * up d * down e) (m * up e * down d), and-true)
-within_by (fin true m e) (fin false n d) h = rw (some (m * up e * down d) (n * up d * down e), eqb_sym (n * up d * down e) (m * up e * down d))

@@ -32,8 +32,8 @@ at_rest s m e t h =
 one_off : (a b : ℕ) → b ≤ a → a < b + b → a % b ≡ a - b
 one_off a b h l = let q : a - b < b = omega arith in mod-eq-sub-mod h ∙ mod-eq_of_lt q
 
-pub rest_small : (x : Float) → T (fits binary32 x) → lt x pi ≡ true → lt (bits 0xC0490FDB) x ≡ true → rem binary32 x pi ≡ x
-unfolding lt of_bits
+pub rest_small : (x : Float) → T (fits binary32 x) → lt x pi ≡ true → lt (neg pi) x ≡ true → rem binary32 x pi ≡ x
+unfolding lt of_bits neg
 rest_small nan t h k = absurd (false≢true h)
 rest_small (inf true) t h k = absurd (false≢true k)
 rest_small (inf false) t h k = absurd (false≢true h)
@@ -52,7 +52,7 @@ rest_above (fin false m e) h k =
     rw (le-ltb (ours m e) (its e) b, one_off (ours m e) (its e) b l)
 
 -- the negative side in a form that is right at -pi too
-pub rest_mirror : (x : Float) → lt (bits 0xC0490FDB) x ≡ false → lt (bits 0xC0C90FDB) x ≡ true → rem binary32 x pi ≡ neg (sub binary32 (neg x) pi)
+pub rest_mirror : (x : Float) → lt (neg pi) x ≡ false → lt (neg (bits 0x40C90FDB)) x ≡ true → rem binary32 x pi ≡ neg (sub binary32 (neg x) pi)
 unfolding lt of_bits rem sub add neg sum
 rest_mirror nan h k = absurd (false≢true k)
 rest_mirror (inf true) h k = absurd (false≢true k)

@@ -2,7 +2,7 @@
 use mathlib.Core.Path.{◌≡◌, refl, sym, ap, ◌∙◌}
 use mathlib.Core.Bool.{Bool, true, false, false≢true}
 use Prim.Native.Nat.{ℕ, zero, suc, ◌+◌, ◌-◌, ◌*◌, ◌/◌, ◌%◌, ◌^◌, ◌≤◌, ◌<◌}
-use native.Mathlib.Nat.{mul_assoc, mul_comm, mul-pos, mul-one, zero-mul, zero-mod, mul-le-mul_right, mod-eq_of_lt, mod-lt, mul-add-mod_self_right, div-add-mod', eq_of_mul-eq-mul_right, pow-le-pow_right}
+use native.Mathlib.Nat.{zero-lt-suc, mul_assoc, mul_comm, mul-pos, mul-one, zero-mul, zero-mod, mul-le-mul_right, mod-eq_of_lt, mod-lt, mul-add-mod_self_right, div-add-mod', eq_of_mul-eq-mul_right, pow-le-pow_right}
 use native.Mathlib.Omega.{arith}
 use borrow.Author.Tests.{lt-ltb}
 use lib.Dec.{T, lit<}
@@ -92,10 +92,6 @@ own_rest (fin false m e) f p h =
 
 -- ---- the float of so many parts
 
-pub no_parts : round binary32 false 0 4194304 ≡ of_bits binary32 0
-unfolding round of_bits
-no_parts = refl
-
 one_part : HasValue (of_bits binary32 880803840) false 1 4194304
 unfolding of_bits
 one_part = (refl, refl)
@@ -104,11 +100,17 @@ part_positive : T (positive (of_bits binary32 880803840))
 unfolding of_bits
 part_positive = tt
 
-pub some_parts : (r : ℕ) → 0 < r → r ≤ 16777216 → mul binary32 (of_int binary32 (pos r)) (of_bits binary32 880803840) ≡ round binary32 false r 4194304
+no_parts : mul binary32 (of_int binary32 (pos 0)) (of_bits binary32 880803840) ≡ round binary32 false 0 4194304
+unfolding mul of_int of_bits round
+no_parts = refl
+
+pub some_parts : (r : ℕ) → r ≤ 16777216 → mul binary32 (of_int binary32 (pos r)) (of_bits binary32 880803840) ≡ round binary32 false r 4194304
 unfolding of_int
-some_parts r h l =
+some_parts zero l = no_parts
+some_parts (suc n) l =
+    let r = suc n in
     let v = round_whole binary32 false r l in
-    mul_at binary32 (round binary32 false r 1) (of_bits binary32 880803840) r 1 1 4194304 (positive_of_value _ r 1 v h) part_positive (lit< tt) (lit< tt) v one_part
+    mul_at binary32 (round binary32 false r 1) (of_bits binary32 880803840) r 1 1 4194304 (positive_of_value _ r 1 v (zero-lt-suc n)) part_positive (lit< tt) (lit< tt) v one_part
     ∙ ap (λ (n : ℕ). round binary32 false n 4194304) (mul-one r)
 
 -- ---- below 0, and what is no number above or below it

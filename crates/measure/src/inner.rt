@@ -11,19 +11,23 @@ ghost use Rattle.measure.specs.Position.{is_position, centroid_of};
 use crate::{octant, range};
 use refusal::Refusal;
 
+// std's word, under the name that docs/CALLS.md gives.
 pub fn is_nan(x: f32) -> bool
     ensures { result ≡ Ieee.is_nan x }
 {
-    x != x
+    x.is_nan()
 }
 
+// std's word, told by the definition of the specs.
+#[tactic(auto, using(crate::proofs::Ranges::finite_is))]
 pub fn is_finite(x: f32) -> bool
     ensures { result ≡ finite x }
 {
-    x < 1.0 / 0.0 && x > -1.0 / 0.0
+    x.is_finite()
 }
 
 // x may be a corner's x or y.
+#[tactic(auto, using(crate::proofs::Literals::literals))]
 pub fn is_position(x: f32) -> bool
     ensures { result ≡ is_position x }
 {
@@ -31,28 +35,31 @@ pub fn is_position(x: f32) -> bool
 }
 
 // x as a word of a list: any NaN goes in as one pattern, so the word is determined.
+#[tactic(auto, using(crate::proofs::Words::nan_word))]
 pub fn word_of(x: f32) -> u32
     ensures { result ≡ Ieee.to_bits binary32 x }
 {
-    if x == x { f32::to_bits(x) } else { 0x7FC0_0000 }
+    if x.is_nan() { 0x7FC0_0000 } else { x.to_bits() }
 }
 
 // The float of a word, which may be the pattern of a NaN.
+#[tactic(auto, using(crate::proofs::Words::nan_bits_lem, crate::proofs::Words::fine_bits))]
 pub fn float_of(b: u32) -> f32
     ensures { result ≡ Ieee.of_bits binary32 b }
 {
     if 0x7F80_0000 < b % 0x8000_0000 {
-        0.0 / 0.0
+        f32::NAN
     } else {
         f32::from_bits(b)
     }
 }
 
 // The angle rule with no refusal, for differences of positions, which are in reach.
+#[tactic(auto, using(crate::proofs::Sign::abs_is), unfolding(crate::specs::Angle::angle_rule))]
 pub fn angle_rule(dx: f32, dy: f32) -> f32
     ensures { result ≡ angle_rule dx dy }
 {
-    let base = octant::octant(octant::magnitude(dx), octant::magnitude(dy));
+    let base = octant::octant(dx.abs(), dy.abs());
     octant::below(
         octant::sign_bit(dy),
         octant::across(octant::sign_bit(dx), base),
@@ -60,6 +67,7 @@ pub fn angle_rule(dx: f32, dy: f32) -> f32
 }
 
 // The mean of four coordinates, added in order.
+#[tactic(auto, using(crate::proofs::Literals::literals), unfolding(crate::specs::Position::centroid_of))]
 pub fn centroid(p0: f32, p1: f32, p2: f32, p3: f32) -> f32
     ensures { result ≡ centroid_of p0 p1 p2 p3 }
 {

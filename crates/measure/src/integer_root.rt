@@ -2,7 +2,8 @@
 ghost use Rattle.std.specs.Prelude.{◌+◌, ◌*◌, ◌^◌, ◌≤◌, ◌<◌};
 ghost use Rattle.measure.specs.inner.RootSteps.{IntegerRoot, NearestRoot};
 
-// Newton's iteration; from `start` two turns are usual.
+// Newton's iteration, which goes on until the guess is the root: nothing is counted. From `start` two turns are usual. std's `isqrt` halves a
+// range 32 times, which was tried and takes four times as long.
 fn isqrt(n: u64) -> u64
     requires { (2 ^ 46 ≤ n) × (n < 2 ^ 48) }
     ensures { IntegerRoot n result }
@@ -15,6 +16,7 @@ fn isqrt(n: u64) -> u64
 }
 
 // The first guess, which is no lower than the root: a tangent of the root, one for the numbers below 2^47 and one for the others.
+#[tactic(auto, using(crate::proofs::Newton::newton_above))]
 fn start(n: u64) -> u64
     requires { n < 2 ^ 48 }
     ensures { (n < (result + 1) * (result + 1)) × (result ≤ 33554432) }

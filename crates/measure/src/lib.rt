@@ -23,35 +23,31 @@ pub fn root(x: f32) -> Result<f32, Refusal>
     ensures only { result ≡ root_of x }
 {
     if x == 0.0 {
-        return Ok(x);
+        Ok(x)
+    } else if range::is_positive(x) {
+        Ok(f32::from_bits(root_pattern::root_bits(x.to_bits())))
+    } else {
+        Err(Refusal::OutOfRange(0))
     }
-    if range::is_positive(x) {
-        return Ok(f32::from_bits(root_pattern::root_bits(f32::to_bits(x))));
-    }
-    Err(Refusal::OutOfRange(0))
 }
 
 // The angle of the difference (dx, dy) by document 01's rule.
+#[tactic(auto, unfolding(crate::specs::Angle::angle_of, crate::specs::Angle::reached))]
 pub fn angle(dx: f32, dy: f32) -> Result<f32, Refusal>
     ensures { result ≡ angle_of dx dy }
 {
-    if !range::in_reach(dx) {
-        return Err(Refusal::OutOfRange(0));
+    if range::in_reach(dx) && range::in_reach(dy) {
+        Ok(inner::angle_rule(dx, dy))
+    } else {
+        Err(Refusal::OutOfRange(0))
     }
-    if !range::in_reach(dy) {
-        return Err(Refusal::OutOfRange(0));
-    }
-    Ok(inner::angle_rule(dx, dy))
 }
 
 // How far an angle is from an undirected axis: from 0 to a quarter turn.
+#[tactic(auto, unfolding(crate::specs::Distance::distance_of, crate::specs::Distance::apart, crate::specs::Distance::number_or_none))]
 pub fn axis_distance(angle: f32, axis: f32) -> Option<f32>
     ensures { result ≡ distance_of angle axis }
 {
     let d = turn::fold(turn::lift(turn::rest(angle - axis)));
-    if inner::is_finite(d) {
-        Some(d)
-    } else {
-        None
-    }
+    inner::is_finite(d).then_some(d)
 }

@@ -1,27 +1,20 @@
 // The steps of document 01's angle rule, each one decision or one row of sums.
 ghost use Rattle.std.specs.Prelude.{◌≡◌};
 ghost use Rattle.measure.specs.Angle.{series_of, part_of, ratio_of, base_of, octant_of, across_of, below_of};
-ghost use Rattle.measure.specs.Float.{sign_of, abs_of};
+ghost use Rattle.measure.specs.Float.{sign_of};
 
-use crate::inner;
-use crate::turn::{HALF_PI, PI};
+use std::f32::consts::{FRAC_PI_2, FRAC_PI_4, PI};
 
-const QUARTER_PI: f32 = f32::from_bits(0x3F490FDB);
-
-// Whether x's sign bit is set, as it is in -0.
+// Whether x's sign bit is set, as it is in -0. A NaN's is read as clear.
+#[tactic(auto, using(crate::proofs::Sign::negative_is, crate::proofs::Sign::nan_clear))]
 pub(crate) fn sign_bit(x: f32) -> bool
     ensures { result ≡ sign_of x }
 {
-    inner::word_of(x) >= 0x8000_0000
-}
-
-pub(crate) fn magnitude(x: f32) -> f32
-    ensures { result ≡ abs_of x }
-{
-    if sign_bit(x) { -x } else { x }
+    !x.is_nan() && x.is_sign_negative()
 }
 
 // p, from w: the odd reciprocals with alternating signs, from 1/15 down to 1.
+#[tactic(auto, using(crate::proofs::Literals::literals), unfolding(crate::specs::Angle::series_of))]
 fn series(w: f32) -> f32
     ensures { result ≡ series_of w }
 {
@@ -35,22 +28,25 @@ fn series(w: f32) -> f32
     1.0 + w * p3
 }
 
+#[tactic(auto, unfolding(crate::specs::Angle::part_of))]
 fn part(offset: f32, z: f32) -> f32
     ensures { result ≡ part_of offset z }
 {
     offset + z * series(z * z)
 }
 
+#[tactic(auto, using(crate::proofs::Literals::literals), unfolding(crate::specs::Angle::ratio_of))]
 fn ratio(t: f32) -> f32
     ensures { result ≡ ratio_of t }
 {
     if t > 0.4140625 {
-        part(QUARTER_PI, (t - 1.0) / (t + 1.0))
+        part(FRAC_PI_4, (t - 1.0) / (t + 1.0))
     } else {
         part(0.0, t)
     }
 }
 
+#[tactic(auto, unfolding(crate::specs::Angle::base_of))]
 fn base(lo: f32, hi: f32) -> f32
     ensures { result ≡ base_of lo hi }
 {
@@ -58,22 +54,25 @@ fn base(lo: f32, hi: f32) -> f32
 }
 
 // From the magnitudes of dx and dy.
+#[tactic(auto, unfolding(crate::specs::Angle::octant_of))]
 pub(crate) fn octant(mx: f32, my: f32) -> f32
     ensures { result ≡ octant_of mx my }
 {
     if my > mx {
-        HALF_PI - base(mx, my)
+        FRAC_PI_2 - base(mx, my)
     } else {
         base(my, mx)
     }
 }
 
+#[tactic(auto, unfolding(crate::specs::Angle::across_of))]
 pub(crate) fn across(sx: bool, base: f32) -> f32
     ensures { result ≡ across_of sx base }
 {
     if sx { PI - base } else { base }
 }
 
+#[tactic(auto, unfolding(crate::specs::Angle::below_of))]
 pub(crate) fn below(sy: bool, base: f32) -> f32
     ensures { result ≡ below_of sy base }
 {

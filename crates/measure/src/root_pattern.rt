@@ -1,4 +1,5 @@
 // The root of a float by its pattern: the significand moved to 32 bits, an integer root, and the pattern of the answer.
+// std's `sqrt` is the machine's: it has no step whose rounding the edit root_rounds_up_below_half_way could get wrong.
 ghost use Rattle.std.specs.Prelude.{◌≡◌, ◌*◌, ◌^◌, ◌≤◌, ◌<◌};
 ghost use Rattle.measure.specs.Pattern.{sig_of, exp_of, units};
 ghost use Rattle.measure.specs.inner.RootSteps.{RootBits};
@@ -10,7 +11,7 @@ fn room(s: u32) -> u32
     requires { 0 < s }
     ensures { (2 ^ 31 ≤ s * 2 ^ result) × (s * 2 ^ result < 2 ^ 32) }
 {
-    u32::leading_zeros(s)
+    s.leading_zeros()
 }
 
 // The pattern of the float whose units are nearest to the root of the number z * 2^f, z having 32 bits. That number is 2^149 times
@@ -26,6 +27,7 @@ fn pattern_of_root(z: u64, f: u32) -> u32
     }
 }
 
+#[tactic(auto, unfolding(crate::specs::Pattern::sig_of))]
 pub(crate) fn significand(b: u32) -> u32
     ensures { result ≡ sig_of b }
 {
@@ -36,6 +38,7 @@ pub(crate) fn significand(b: u32) -> u32
     }
 }
 
+#[tactic(auto, unfolding(crate::specs::Pattern::exp_of))]
 pub(crate) fn exponent(b: u32) -> u32
     ensures { result ≡ exp_of b }
 {

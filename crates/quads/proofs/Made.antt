@@ -26,10 +26,11 @@ pub count_more : (m : Mesh) (t : ℕ) → count_to m (t + 1) ≡ count_to m t + 
 unfolding count_to
 count_more m t = rw (add-one t)
 
-pub one_some : (p : Option Quad) → from_bool (is_some p) ≡ one (is_four p)
+-- the code's number of a test
+pub one_from : (b : Bool) → from_bool b ≡ one b
 unfolding one
-one_some None = refl
-one_some (Some q) = refl
+one_from true = refl
+one_from false = refl
 
 -- ---- what a triangle adds
 

@@ -9,7 +9,7 @@ use crate::{Mesh, Quad};
 use mesh::Positions;
 
 // How many quads the mesh makes. `merge_triangle_pairs` shows what is asked by its rows.
-#[tactic(auto, using(crate::proofs::Made::count_le, crate::proofs::Made::count_more, crate::proofs::Made::one_some), unfolding(crate::specs::inner::Merging::count_to))]
+#[tactic(auto, using(crate::proofs::Made::count_le, crate::proofs::Made::count_more, crate::proofs::Made::one_from), unfolding(crate::specs::inner::Merging::count_to))]
 pub(crate) fn count_quads(mesh: Mesh<'_>) -> usize
     requires { MeshSound (mesh_of mesh) }
     ensures { result ≡ count_to (mesh_of mesh.entry) (triangle_count (mesh_of mesh.entry)) }
@@ -40,7 +40,7 @@ pub fn write_quads(corners: Positions<'_>, mesh: Mesh<'_>, quads: &mut [u32]) ->
     let mut made = 0;
     for t in 0..mesh.triangles.len() / 3 {
         if let Some(q) = pair_at(mesh, t) {
-            store(quads, 4 * made, order_corners(corners.x, corners.y, q));
+            store(quads, 4 * made, order_corners(corners, q));
             made += 1;
         }
     }

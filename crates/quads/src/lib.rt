@@ -24,15 +24,6 @@ pub struct Quad {
     pub d: u32,
 }
 
-// The places of four corners in order of their angles.
-#[derive(Clone, Copy)]
-pub struct Ranks {
-    pub a: usize,
-    pub b: usize,
-    pub c: usize,
-    pub d: usize,
-}
-
 // The half-edges with their corners, three to a triangle, their twins and their classes.
 #[derive(Clone, Copy)]
 pub struct Mesh<'a> {

@@ -40,5 +40,5 @@ float_from_bits-result c = bits_fine c.root_bits.result (omega (arith, c.root_bi
 pub returns-then-is_positive : goal.returns-then-is_positive
 returns-then-is_positive c = let h = answer (goal.at.returns-then-is_positive c).Start (positive_case _ _ (above (goal.at.returns-then-is_positive c).Then-is_positive) (is_root _ _ (held (goal.at.returns-then-is_positive c).Then-is_positive) (above (goal.at.returns-then-is_positive c).Then-is_positive) c.root_bits.ensures)) in record { rule = h.0; only = h.1 }
 
-pub returns : goal.returns
-returns c = let h = answer (goal.at.returns c).Start (refused_case _ c.if-x.false (sym c.is_positive.ensures ∙ c.if-is_positive.false)) in record { rule = h.0; only = h.1 }
+pub returns-else-is_positive : goal.returns-else-is_positive
+returns-else-is_positive c = let h = answer (goal.at.returns-else-is_positive c).Start (refused_case _ c.if-x.false (sym c.is_positive.ensures ∙ c.if-is_positive.false)) in record { rule = h.0; only = h.1 }

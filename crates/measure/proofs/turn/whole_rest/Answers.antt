@@ -8,7 +8,7 @@ use lib.Dec.{T, lit<}
 use lib.Ieee.{binary32, fits, round}
 use lib.Ieee.Positive.{positive}
 use Rattle.measure.proofs.PatternFloats.{positive_no_nan}
-use Rattle.measure.proofs.Whole.{whole_rest_is, own_rest, no_parts, some_parts}
+use Rattle.measure.proofs.Whole.{whole_rest_is, own_rest, some_parts}
 use Rattle.measure.proofs.turn.whole_rest.Goals as goal
 use Rattle.measure.proofs.turn.whole_rest.Goals.{Start}
 
@@ -24,17 +24,10 @@ float_to_bits-b c = positive_no_nan _ (above (goal.at.float_to_bits-b c).Start)
 pub returns-then-e-lt127 : goal.returns-then-e-lt127
 returns-then-e-lt127 c = own_rest c.args.d (held (goal.at.returns-then-e-lt127 c).Start) (above (goal.at.returns-then-e-lt127 c).Start) (omega (arith, c.exponent-e.ensures))
 
-pub returns-then-rest-eq0 : goal.returns-then-rest-eq0
-returns-then-rest-eq0 c =
-    let start = (goal.at.returns-then-rest-eq0 c).Start in
+pub returns-else-e-lt127 : goal.returns-else-e-lt127
+returns-else-e-lt127 c =
+    let start = (goal.at.returns-else-e-lt127 c).Start in
     let is = whole_rest_is c.args.d (held start) (above start) (omega (arith, c.exponent-e.ensures, c.if-e-lt127.false)) in
-    let left = rw (c.significand.ensures, c.exponent-e.ensures) at c.parts-rest.ensures in
-    sym (is ∙ ap (λ (r : ℕ). round binary32 false r 4194304) (sym left ∙ c.if-rest-eq0.true) ∙ no_parts)
-
-pub returns : goal.returns
-returns c =
-    let start = (goal.at.returns c).Start in
-    let is = whole_rest_is c.args.d (held start) (above start) (omega (arith, c.exponent-e.ensures, c.if-e-lt127.false)) in
-    let left = rw (c.significand.ensures, c.exponent-e.ensures) at c.parts-rest.ensures in
+    let left = rw (c.significand.ensures, c.exponent-e.ensures) at c.parts.ensures in
     let few = mod-lt (c.significand.result * 2 ^ (c.exponent-e.result - 127)) {m = 13176795} (lit< tt) in
-    some_parts c.parts-rest.result (omega (arith, c.if-rest-eq0.false)) (omega (arith, few, c.parts-rest.ensures)) ∙ sym (is ∙ ap (λ (r : ℕ). round binary32 false r 4194304) (sym left))
+    some_parts c.parts.result (omega (arith, few, c.parts.ensures)) ∙ sym (is ∙ ap (λ (r : ℕ). round binary32 false r 4194304) (sym left))
