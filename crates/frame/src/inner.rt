@@ -63,7 +63,11 @@ pub fn compute_frame(
     let mut quads = [0u32; 4 * MOST_QUADS];
     let n = quads_of(frame, params, work, &mut quads);
     let span = span_of(n, frame.corners.x.len());
-    let sheet = Sheet::new(&quads[..4 * n], span, n);
+    let sheet = Sheet {
+        quads: &quads[..4 * n],
+        span,
+        count: n,
+    };
     compute(sheet, work, params.labels);
     FrameCounts {
         quads: n,

@@ -39,7 +39,11 @@ pub fn label_components(
     gate::entry(quads, corners as usize, work.len())?;
     let n = quads.len() / 4;
     let span = span_of(n, corners as usize);
-    let sheet = Sheet::new(quads, span, n);
+    let sheet = Sheet {
+        quads,
+        span,
+        count: n,
+    };
     compute(sheet, work, params);
     let totals = count_components(work, span, n);
     write_components(work, span, n, totals, components, entries)

@@ -1,6 +1,7 @@
 -- `label_components` is allowed: the rows, then the labelling, then the counts, then what follows them.
 use mathlib.Core.Path.{sym, ◌∙◌}
 use Rattle.std.proofs.lemmas.Result.{err_from_is_err_and}
+use native.Mathlib.Omega.{arith}
 use Rattle.walk.specs.Input.{Input}
 use Rattle.walk.proofs.Outcomes.{shut, Entered, may_compute, may_emit, emitted}
 use Rattle.walk.proofs.label_components.Goals as goal
@@ -18,8 +19,8 @@ returns-in_err-entry c =
     let p = err_from_is_err_and c.from_residual.result c.from_residual.ensures.1 in
     rw (p.1, p.2) (shut _ _ _ _ _ _ (c.entry.ensures c.args.params) c.in_err-entry.was)
 
-pub new-sheet-requires : goal.new-sheet-requires
-new-sheet-requires c = (may_compute (entered (goal.at.new-sheet-requires c).After-span_of-span)).0
+pub invariant_of-sheet : goal.invariant_of-sheet
+invariant_of-sheet c = record { given = (may_compute (entered (goal.at.invariant_of-sheet c).After-span_of-span)).0 }
 
 pub compute-requires : goal.compute-requires
 compute-requires c = omega (arith, (may_compute (entered (goal.at.compute-requires c).After-span_of-span)).1)
