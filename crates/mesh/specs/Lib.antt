@@ -3,3 +3,4 @@ pub mod Lists
 pub mod Positions
 pub mod Cells
 pub mod Twins
+pub mod inner

@@ -6,7 +6,7 @@ ghost use Rattle.std.specs.Prelude.{◌≡◌};
 ghost use Rattle.refusal.specs.Table.{number_of, place_of, beside_of, has_beside};
 
 // What was wrong with the input. A number beside it is what the table calls the place; a twin fault also has the twin's value.
-#[derive(Clone, Copy)]
+#[derive(Clone, Copy, Debug, PartialEq, Eq)]
 pub enum Refusal {
     Unpaired,
     OverLimit,
@@ -34,8 +34,7 @@ pub fn number(refusal: Refusal) -> u32
         Refusal::ParameterNan(_) => 3,
         Refusal::NoSuchRule => 18,
         Refusal::OutOfRange(_) => 4,
-        Refusal::NoSuchCorner(_) => 5,
-        Refusal::NoSuchClass(_) => 5,
+        Refusal::NoSuchCorner(_) | Refusal::NoSuchClass(_) => 5,
         Refusal::CornerTwice(_) => 6,
         Refusal::TwinPastEnd(_, _) => 7,
         Refusal::TwinNotBack(_, _) => 11,
@@ -51,10 +50,8 @@ pub fn place(refusal: Refusal) -> u32
     ensures { result ≡ place_of refusal }
 {
     match refusal {
-        Refusal::Unpaired => 0,
-        Refusal::OverLimit => 0,
+        Refusal::Unpaired | Refusal::OverLimit | Refusal::NoSuchRule => 0,
         Refusal::ParameterNan(parameter) => parameter,
-        Refusal::NoSuchRule => 0,
         Refusal::OutOfRange(corner) => corner,
         Refusal::NoSuchCorner(position) => position,
         Refusal::NoSuchClass(position) => position,
@@ -73,20 +70,10 @@ pub fn beside(refusal: Refusal) -> u32
     ensures { result ≡ beside_of refusal }
 {
     match refusal {
-        Refusal::Unpaired => 0,
-        Refusal::OverLimit => 0,
-        Refusal::ParameterNan(_) => 0,
-        Refusal::NoSuchRule => 0,
-        Refusal::OutOfRange(_) => 0,
-        Refusal::NoSuchCorner(_) => 0,
-        Refusal::NoSuchClass(_) => 0,
-        Refusal::CornerTwice(_) => 0,
         Refusal::TwinPastEnd(_, twin) => twin,
         Refusal::TwinNotBack(_, twin) => twin,
         Refusal::TwinElsewhere(_, twin) => twin,
-        Refusal::WorkspaceShort(_) => 0,
-        Refusal::RecordsShort(_) => 0,
-        Refusal::EntriesShort(_) => 0,
+        _ => 0,
     }
 }
 
@@ -94,11 +81,5 @@ pub fn beside(refusal: Refusal) -> u32
 pub fn has_beside(number: u32) -> bool
     ensures { result ≡ has_beside number }
 {
-    if number == 7 {
-        return true;
-    }
-    if number == 11 {
-        return true;
-    }
-    number == 12
+    matches!(number, 7 | 11 | 12)
 }

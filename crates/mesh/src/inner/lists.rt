@@ -25,9 +25,10 @@ pub fn doubled_row(a: usize, b: usize) -> Result<(), Refusal>
     ensures { result ≡ doubled_row a b }
 {
     if a % 2 == 0 {
-        return paired_row(a / 2, b);
+        paired_row(a / 2, b)
+    } else {
+        Err(Refusal::Unpaired)
     }
-    Err(Refusal::Unpaired)
 }
 
 // The size is 3 or 4, by every caller's own record.

@@ -1,26 +1,21 @@
 // Where corners stand, and row 4: positions in range.
-ghost use Rattle.std.specs.Prelude.{◌≡◌, ◌&&◌, ◌<◌, length};
-ghost use Rattle.measure.specs.Position.{is_position};
+ghost use Rattle.std.specs.Prelude.{◌≡◌, ◌<◌, length};
 ghost use Rattle.mesh.specs.Positions.{positions_row};
 
 use crate::Positions;
+use crate::inner::first::refuse_first;
+use measure::inner::is_position;
 use refusal::Refusal;
 
-fn both_positions(x: f32, y: f32) -> bool
-    ensures { result ≡ (is_position x && is_position y) }
-{
-    measure::inner::is_position(x) && measure::inner::is_position(y)
-}
-
 // Rows 1 and 2 have let through lists of one length within the limit.
+#[tactic(auto, unfolding(crate::specs::Positions::positions_row, crate::specs::Positions::misplaced))]
 pub fn positions_row(corners: Positions<'_>) -> Result<(), Refusal>
     requires { (length corners.y.now ≡ length corners.x.now) × (length corners.x.now < 4294967296) }
     ensures { result ≡ positions_row corners.entry.x.now corners.entry.y.now }
 {
-    for i in 0..corners.x.len() {
-        if !both_positions(corners.x[i], corners.y[i]) {
-            return Err(Refusal::OutOfRange(i as u32));
-        }
-    }
-    Ok(())
+    refuse_first(
+        corners.x.len(),
+        |k| !(is_position(corners.x[k]) && is_position(corners.y[k])),
+        Refusal::OutOfRange,
+    )
 }
