@@ -23,15 +23,10 @@ fn nearest(slot0: Option<f32>, slot1: Option<f32>) -> Option<Near>
     ensures { result ≡ nearer slot0 slot1 }
 {
     match (slot0, slot1) {
-        (Some(d0), Some(d1)) if d1 < d0 => Some(Near {
-            slot: 1,
-            distance: d1,
-        }),
-        (Some(d0), _) => Some(Near {
-            slot: 0,
-            distance: d0,
-        }),
-        (None, d1) => d1.map(|distance| Near { slot: 1, distance }),
+        (Some(d0), Some(distance)) if distance < d0 => Some(Near { slot: 1, distance }),
+        (Some(distance), _) => Some(Near { slot: 0, distance }),
+        (None, Some(distance)) => Some(Near { slot: 1, distance }),
+        (None, None) => None,
     }
 }
 
