@@ -1,6 +1,5 @@
 -- A distance is finite and at least 0, or -0: the rest by pi is at most pi in magnitude, and what stands after the first step at most pi.
 -- Assumes nothing.
-use Rattle.std.specs.Prelude.{Option, Some, None}
 use mathlib.Core.Path.{◌≡◌, refl, subst}
 use mathlib.Core.Bool.{Bool, true, false, cond}
 use Prim.Native.Nat.{ℕ, ◌+◌, ◌-◌, ◌*◌, ◌%◌, ◌≤◌, ◌<◌}
@@ -19,6 +18,8 @@ use Rattle.measure.specs.Distance.{pi, lifted, folded, apart, number_or_none, di
 use Rattle.measure.proofs.Rounding.{or_le, small_round, round_neg}
 use Rattle.measure.proofs.Bounds.{le_or}
 use Rattle.measure.proofs.AngleBounds.{e4}
+use Rattle.measure.specs.declared.Distance.{Distance}
+use Rattle.measure.specs.declared.Distance.TheVariants.{Known, Missing}
 
 -- ---- a fraction of at most pi, which is 13176795 / 2^22, rounds to at most pi
 
@@ -128,9 +129,9 @@ apart_from_zero (fin s m e) f =
     let some : 0 < 13176795 * 1 * down e = mul-pos (lit< tt) (down_pos e) in
     rounded_from_zero s (m * up e * 4194304 % (13176795 * 1 * down e)) (down e * 4194304) (mul-pos (down_pos e) (lit< tt)) (omega (arith, mod-lt (m * up e * 4194304) some))
 
-abbrev pub FromZero : Option Float → Type 0
-FromZero (Some d) = T (finite d) × (le (bits 0) d ≡ true)
-FromZero None = Unit
+abbrev pub FromZero : Distance → Type 0
+FromZero (Known d) = T (finite d) × (le (bits 0) d ≡ true)
+FromZero Missing = Unit
 
 pub distance_from_zero : (angle axis : Float) → FromZero (distance_of angle axis)
 unfolding distance_of apart number_or_none

@@ -1,10 +1,11 @@
--- Document 01, "Option Float": how far an angle is from an undirected axis, or none.
-use Rattle.std.specs.Prelude.{Option, Some, None}
+-- Document 01, "Distance": how far an angle is from an undirected axis, or none.
 use Rattle.std.specs.Prelude.{Bool, true, false, cond, Float}
 use Rattle.std.specs.Float.Ieee as Ieee
 use Rattle.std.specs.Float.{binary32}
 use Rattle.std.specs.Float.Ieee.Scale.{finite}
 use Rattle.measure.specs.Float.{bits}
+use Rattle.measure.specs.declared.Distance.{Distance}
+use Rattle.measure.specs.declared.Distance.TheVariants.{Known, Missing}
 
 -- the floats for pi and pi/2
 abbrev pub pi : Float
@@ -26,9 +27,9 @@ unfoldable pub apart : Float → Float → Float
 apart angle axis = folded (lifted (Ieee.rem binary32 (Ieee.sub binary32 angle axis) pi))
 
 -- the answer is that number or, if not finite, none
-unfoldable pub number_or_none : Bool → Float → Option Float
-number_or_none true d = Some d
-number_or_none false d = None
+unfoldable pub number_or_none : Bool → Float → Distance
+number_or_none true d = Known d
+number_or_none false d = Missing
 
-unfoldable pub distance_of : Float → Float → Option Float
+unfoldable pub distance_of : Float → Float → Distance
 distance_of angle axis = number_or_none (finite (apart angle axis)) (apart angle axis)

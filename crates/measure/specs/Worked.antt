@@ -1,6 +1,5 @@
 -- Further worked examples, one at least for each branch of each rule. The answers are from outside: roots from the machine's own square
 -- root, angles and distances from the ruled Rust (oracle/, `oracle vectors numbers`), the rest plain arithmetic.
-use Rattle.std.specs.Prelude.{Some, None}
 use Rattle.std.specs.Prelude.{Ok, Err}
 use Rattle.std.specs.Prelude.{◌≡◌, true, false, ℕ}
 use Rattle.refusal.specs.declared.Refusal.TheVariants.{OutOfRange}
@@ -10,6 +9,7 @@ use Rattle.measure.specs.Position.{is_position, centroid_of}
 use Rattle.measure.specs.Angle.{angle_of}
 use Rattle.measure.specs.Distance.{distance_of}
 use Rattle.measure.specs.RootComputed.{root_of}
+use Rattle.measure.specs.declared.Distance.TheVariants.{Known, Missing}
 
 -- patterns in, pattern or refusal out
 abbrev Root : ℕ → ℕ → Type 0
@@ -25,10 +25,10 @@ abbrev NoAngle : ℕ → ℕ → Type 0
 NoAngle dx dy = angle_of (bits dx) (bits dy) ≡ Err (OutOfRange 0)
 
 abbrev Apart : ℕ → ℕ → ℕ → Type 0
-Apart angle axis d = distance_of (bits angle) (bits axis) ≡ Some (bits d)
+Apart angle axis d = distance_of (bits angle) (bits axis) ≡ Known (bits d)
 
 abbrev NoDistance : ℕ → ℕ → Type 0
-NoDistance angle axis = distance_of (bits angle) (bits axis) ≡ None
+NoDistance angle axis = distance_of (bits angle) (bits axis) ≡ Missing
 
 pub record Worked : Type 0 where
   -- roots: both zeros, an exact one, the greatest subnormal and least normal, beside a square, the greatest float

@@ -17,6 +17,13 @@ mod range;
 mod root_pattern;
 mod turn;
 
+// How far an angle is from an axis: a number, or none. An enum of its own, as document 01 has the form of this answer.
+#[derive(Clone, Copy, Debug, PartialEq)]
+pub enum Distance {
+    Missing,
+    Known(f32),
+}
+
 // The IEEE 754 square root of x: nearest, subnormals included, -0 of -0.
 pub fn root(x: f32) -> Result<f32, Refusal>
     ensures rule { RootOf x result }
@@ -45,9 +52,13 @@ pub fn angle(dx: f32, dy: f32) -> Result<f32, Refusal>
 
 // How far an angle is from an undirected axis: from 0 to a quarter turn.
 #[tactic(auto, unfolding(crate::specs::Distance::distance_of, crate::specs::Distance::apart, crate::specs::Distance::number_or_none))]
-pub fn axis_distance(angle: f32, axis: f32) -> Option<f32>
+pub fn axis_distance(angle: f32, axis: f32) -> Distance
     ensures { result ≡ distance_of angle axis }
 {
     let d = turn::fold(turn::lift(turn::rest(angle - axis)));
-    inner::is_finite(d).then_some(d)
+    if inner::is_finite(d) {
+        Distance::Known(d)
+    } else {
+        Distance::Missing
+    }
 }
