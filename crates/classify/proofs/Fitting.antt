@@ -15,7 +15,10 @@ use Rattle.measure.proofs.DistanceBounds.{FromZero, distance_from_zero}
 use Rattle.axis.specs.declared.AxisCache.{AxisCache}
 use Rattle.classify.specs.declared.Near.{Near}
 use Rattle.classify.specs.declared.Side.{Side}
-use Rattle.classify.specs.declared.GridSide.{GridSide}
+use Rattle.measure.specs.declared.Distance.{Distance}
+use Rattle.measure.specs.declared.Distance.TheVariants.{Known, Missing}
+use Rattle.classify.specs.declared.Judged.{Judged}
+use Rattle.classify.specs.declared.Judged.TheVariants.{Grid, Spurious}
 use Rattle.classify.specs.declared.Class.{Class}
 use Rattle.classify.specs.declared.Class.TheVariants as class
 use Rattle.classify.specs.Match.{offered, found, nearer, match_of, side_of, distance_in, is_below, no_fit, greater_of, grid_side, judged_by, judged_of, class_by}
@@ -29,16 +32,16 @@ unfolding offered
 offered_from_zero true angle axis = distance_from_zero angle axis
 offered_from_zero false angle axis = tt
 
-nearer_from_zero : (a b : Option Float) → FromZero a → FromZero b → FromZero (distance_in (nearer a b))
+nearer_from_zero : (a b : Distance) → FromZero a → FromZero b → FromZero (distance_in (nearer a b))
 unfolding nearer
-nearer_from_zero (Some d0) (Some d1) p q = go (lt d1 d0)
+nearer_from_zero (Known d0) (Known d1) p q = go (lt d1 d0)
   where
     go : (t : Bool) → FromZero (distance_in (cond t (found 1 d1) (found 0 d0)))
     go true = q
     go false = p
-nearer_from_zero (Some d0) None p q = p
-nearer_from_zero None (Some d1) p q = q
-nearer_from_zero None None p q = tt
+nearer_from_zero (Known d0) Missing p q = p
+nearer_from_zero Missing (Known d1) p q = q
+nearer_from_zero Missing Missing p q = tt
 
 match_from_zero : (cache : AxisCache) (angle : Float) → FromZero (distance_in (match_of cache angle))
 unfolding match_of
@@ -49,7 +52,7 @@ match_from_zero cache angle =
 
 -- d is the distance at one of the ends
 abbrev pub AtAnEnd : Side → Float → Type 0
-AtAnEnd side d = (distance_in side.start ≡ Some d) ⊎ (distance_in side.end ≡ Some d)
+AtAnEnd side d = (distance_in side.start ≡ Known d) ⊎ (distance_in side.end ≡ Known d)
 
 -- what a fit that is not -1 is
 pub record Fitting (tolerance : Float) (side : Side) (fit : Float) : Type 0 where
@@ -65,22 +68,22 @@ lt_self x f = go (lt x x) refl
     go true e = lt_once x x f f e
     go false e = e
 
-known_same : (x y : Float) → Some x ≡ Some y → x ≡ y
+known_same : (x y : Float) → Known x ≡ Known y → x ≡ y
 known_same x y e = ap number e
   where
-    number : Option Float → Float
-    number (Some d) = d
-    number None = x
+    number : Distance → Float
+    number (Known d) = d
+    number Missing = x
 
 -- of two known distances below the tolerance
-module _ (tolerance : Float) (side : Side) (d0 d1 : Float) (at_start : distance_in side.start ≡ Some d0) (at_end : distance_in side.end ≡ Some d1)
-    (z0 : FromZero (Some d0)) (z1 : FromZero (Some d1)) (below0 : lt d0 tolerance ≡ true) (below1 : lt d1 tolerance ≡ true) where
+module _ (tolerance : Float) (side : Side) (d0 d1 : Float) (at_start : distance_in side.start ≡ Known d0) (at_end : distance_in side.end ≡ Known d1)
+    (z0 : FromZero (Known d0)) (z1 : FromZero (Known d1)) (below0 : lt d0 tolerance ≡ true) (below1 : lt d1 tolerance ≡ true) where
   -- what no end's distance is above, if neither of the two is
   above_none : (x : Float) → lt x d0 ≡ false → lt x d1 ≡ false → (d : Float) → AtAnEnd side d → lt x d ≡ false
   above_none x p q d (inl e) = subst (λ (y : Float). lt x y ≡ false) (known_same d0 d (sym at_start ∙ e)) p
   above_none x p q d (inr e) = subst (λ (y : Float). lt x y ≡ false) (known_same d1 d (sym at_end ∙ e)) q
 
-  greater_fits : Fitting tolerance side (greater_of (Some d0) (Some d1))
+  greater_fits : Fitting tolerance side (greater_of (Known d0) (Known d1))
   unfolding greater_of
   greater_fits = go (lt d0 d1) refl
     where
@@ -88,13 +91,13 @@ module _ (tolerance : Float) (side : Side) (d0 d1 : Float) (at_start : distance_
       go true e = record { at_an_end = inr at_end; greatest = above_none d1 (lt_once d0 d1 z0.0 z1.0 e) (lt_self d1 z1.0); from_zero = z1.1; below = below1 }
       go false e = record { at_an_end = inl at_start; greatest = above_none d0 (lt_self d0 z0.0) e; from_zero = z0.1; below = below0 }
 
-is_grid : Option GridSide → Bool
-is_grid (Some own) = true
-is_grid None = false
+is_grid : Judged → Bool
+is_grid (Grid own) = true
+is_grid Spurious = false
 
 no_end : (near : Near) (tolerance : Float) → is_grid (judged_by tolerance (Some near) None) ≡ false
 unfolding judged_by is_below is_grid
-no_end near tolerance = ap (λ (b : Bool). is_grid (cond b (Some (grid_side (Some near) None)) None)) (and-false (lt near.distance tolerance))
+no_end near tolerance = ap (λ (b : Bool). is_grid (cond b (Grid (grid_side (Some near) None)) Spurious)) (and-false (lt near.distance tolerance))
 
 -- a side that is judged Grid has both distances, each below the tolerance
 grid_fits : (tolerance : Float) (side : Side) (start end : Option Near) → side.start ≡ start → side.end ≡ end → FromZero (distance_in start) → FromZero (distance_in end) → is_grid (judged_by tolerance start end) ≡ true
@@ -102,8 +105,8 @@ grid_fits : (tolerance : Float) (side : Side) (start end : Option Near) → side
 unfolding judged_by is_below is_grid
 grid_fits tolerance side (Some a) (Some b) p q z0 z1 g = go (lt a.distance tolerance) refl (lt b.distance tolerance) refl g
   where
-    go : (s : Bool) → lt a.distance tolerance ≡ s → (t : Bool) → lt b.distance tolerance ≡ t → is_grid (cond (s && t) (Some (grid_side (Some a) (Some b))) None) ≡ true
-        → Fitting tolerance side (greater_of (Some a.distance) (Some b.distance))
+    go : (s : Bool) → lt a.distance tolerance ≡ s → (t : Bool) → lt b.distance tolerance ≡ t → is_grid (cond (s && t) (Grid (grid_side (Some a) (Some b))) Spurious) ≡ true
+        → Fitting tolerance side (greater_of (Known a.distance) (Known b.distance))
     go true e true f h = greater_fits tolerance side a.distance b.distance (ap distance_in p) (ap distance_in q) z0 z1 e f
     go true e false f h = absurd (false≢true h)
     go false e t f h = absurd (false≢true h)
@@ -124,7 +127,7 @@ not_below_lem (fin s m e) (fin u n d) (inf w) fx fy h k = k
 not_below_lem (fin s m e) (fin u n d) (fin w p q) fx fy h k = lt_through (fin s m e) (fin u n d) (fin w p q) tt tt tt h k
 
 -- the greater of two is below t exactly where both are
-both_below : (d0 d1 t : Float) → T (finite d0) → T (finite d1) → (lt d0 t && lt d1 t) ≡ lt (greater_of (Some d0) (Some d1)) t
+both_below : (d0 d1 t : Float) → T (finite d0) → T (finite d1) → (lt d0 t && lt d1 t) ≡ lt (greater_of (Known d0) (Known d1)) t
 unfolding greater_of
 both_below d0 d1 t f0 f1 = go (lt d0 d1) refl
   where
@@ -146,7 +149,7 @@ another_grid : (tolerance t : Float) (start end : Option Near) → FromZero (dis
 unfolding judged_by is_below is_grid
 another_grid tolerance t (Some a) (Some b) z0 z1 g = go (lt a.distance t && lt b.distance t) ∙ both_below a.distance b.distance t z0.0 z1.0
   where
-    go : (s : Bool) → is_grid (cond s (Some (grid_side (Some a) (Some b))) None) ≡ s
+    go : (s : Bool) → is_grid (cond s (Grid (grid_side (Some a) (Some b))) Spurious) ≡ s
     go true = refl
     go false = refl
 another_grid tolerance t (Some a) None z0 z1 g = absurd (false≢true (sym (no_end a tolerance) ∙ g))
@@ -160,16 +163,16 @@ grid_of class.Diagonal = false
 grid_of class.Spurious = false
 
 -- a half-edge is Grid exactly where its own judgement is
-same_grid : (own next last : Option GridSide) → grid_of (class_by own next last) ≡ is_grid own
+same_grid : (own next last : Judged) → grid_of (class_by own next last) ≡ is_grid own
 unfolding class_by grid_of is_grid
-same_grid (Some own) next last = refl
-same_grid None (Some next) (Some last) = go (not (eqb next.end last.start))
+same_grid (Grid own) next last = refl
+same_grid Spurious (Grid next) (Grid last) = go (not (eqb next.end last.start))
   where
     go : (t : Bool) → grid_of (cond t class.Diagonal class.Spurious) ≡ false
     go true = refl
     go false = refl
-same_grid None (Some next) None = refl
-same_grid None None last = refl
+same_grid Spurious (Grid next) Spurious = refl
+same_grid Spurious Spurious last = refl
 
 grid_class : (c : Class) → grid_of c ≡ true → c ≡ class.Grid
 unfolding grid_of
@@ -181,17 +184,17 @@ fit_grid : (tolerance : Float) (start end : Option Near) → is_grid (judged_by 
 unfolding judged_by is_grid fit_of
 fit_grid tolerance start end h = go (is_below tolerance (distance_in start) && is_below tolerance (distance_in end)) h
   where
-    judged_if : Bool → Option GridSide
-    judged_if b = cond b (Some (grid_side start end)) None
+    judged_if : Bool → Judged
+    judged_if b = cond b (Grid (grid_side start end)) Spurious
 
     go : (b : Bool) → is_grid (judged_if b) ≡ true → fit_of (judged_if b) ≡ greater_of (distance_in start) (distance_in end)
     go true h = refl
     go false h = absurd (false≢true h)
 
-fit_spurious : (own : Option GridSide) → is_grid own ≡ false → fit_of own ≡ no_fit
+fit_spurious : (own : Judged) → is_grid own ≡ false → fit_of own ≡ no_fit
 unfolding fit_of is_grid
-fit_spurious (Some own) h = absurd (false≢true (sym h))
-fit_spurious None h = refl
+fit_spurious (Grid own) h = absurd (false≢true (sym h))
+fit_spurious Spurious h = refl
 
 below_zero : le (bits 0) no_fit ≡ false
 unfolding le lt eq of_bits

@@ -14,7 +14,7 @@ use Rattle.axis.specs.declared.Axes.{Axes}
 use Rattle.mesh.specs.declared.Positions.{Positions}
 use Rattle.mesh.proofs.HalfEdge.{next_first, next_second, next_third}
 use Rattle.classify.specs.declared.EdgeParams.{EdgeParams}
-use Rattle.classify.specs.declared.GridSide.{GridSide}
+use Rattle.classify.specs.declared.Judged.{Judged}
 use Rattle.classify.specs.declared.Side.{Side}
 use Rattle.classify.specs.declared.three.Three.{Three}
 use Rattle.classify.specs.Three.{stored}
@@ -65,7 +65,7 @@ Fitted i t l = (e : ℕ) → e < 3 * t → e < length l → get_or l e no_fit �
 
 module _ (i : Input) (t : ℕ) where
   -- triangle t's judgement
-  abbrev own : Three (Option GridSide)
+  abbrev own : Three Judged
   own = judgement_of i.params.tolerance (sides_at i t)
 
   own_words : class_words own ≡ three_from 0 (λ (e : ℕ). class_number (class_at i e)) (3 * t)
@@ -77,7 +77,7 @@ module _ (i : Input) (t : ℕ) where
   own_fits = refl
 
   -- with t's words, or its fits, stored each is right for one triangle more
-  module _ (sides : Three Side) (is : sides ≡ sides_at i t) (judged : Three (Option GridSide)) (by : judged ≡ judgement_of i.params.tolerance sides) where
+  module _ (sides : Three Side) (is : sides ≡ sides_at i t) (judged : Three Judged) (by : judged ≡ judgement_of i.params.tolerance sides) where
     same : judged ≡ own
     same = by ∙ ap (judgement_of i.params.tolerance) is
 

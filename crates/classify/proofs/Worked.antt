@@ -1,6 +1,6 @@
 -- Document 01's frame computed by the definitions: its classes and fits, a distance equal to the tolerance, and the other spread rule; a
 -- third is refused. Assumes nothing.
-use Rattle.std.specs.Prelude.{Some}
+use Rattle.measure.specs.declared.Distance.TheVariants.{Known}
 use mathlib.Core.Path.{◌≡◌, refl}
 use mathlib.Core.List.{[], ◌∷◌}
 use Prim.Native.Nat.{ℕ}
@@ -67,11 +67,11 @@ unfolding frame neg of_bits round add sub mul div rem lt eq le listing series_of
 fits_above_the_distance = refl
 
 -- of two distances the greater, at either end; of 0 and -0 the start's
-pub greater_of_two : (greater_of (Some (bits 0x3E800000)) (Some (bits 0x3F000000)) ≡ bits 0x3F000000) × (greater_of (Some (bits 0x3F000000)) (Some (bits 0x3E800000)) ≡ bits 0x3F000000)
+pub greater_of_two : (greater_of (Known (bits 0x3E800000)) (Known (bits 0x3F000000)) ≡ bits 0x3F000000) × (greater_of (Known (bits 0x3F000000)) (Known (bits 0x3E800000)) ≡ bits 0x3F000000)
 unfolding of_bits lt greater_of
 greater_of_two = (refl, refl)
 
-pub start_of_zeros : (greater_of (Some (bits 0)) (Some (bits 0x80000000)) ≡ bits 0) × (greater_of (Some (bits 0x80000000)) (Some (bits 0)) ≡ bits 0x80000000)
+pub start_of_zeros : (greater_of (Known (bits 0)) (Known (bits 0x80000000)) ≡ bits 0) × (greater_of (Known (bits 0x80000000)) (Known (bits 0)) ≡ bits 0x80000000)
 unfolding of_bits lt greater_of
 start_of_zeros = (refl, refl)
 

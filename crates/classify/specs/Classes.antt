@@ -12,7 +12,7 @@ use Rattle.mesh.specs.declared.Positions.{Positions}
 use Rattle.mesh.specs.HalfEdge.{next_of, start_of, end_of}
 use Rattle.classify.specs.declared.EdgeParams.{EdgeParams}
 use Rattle.classify.specs.declared.Side.{Side}
-use Rattle.classify.specs.declared.GridSide.{GridSide}
+use Rattle.classify.specs.declared.Judged.{Judged}
 use Rattle.classify.specs.declared.Class.{Class}
 use Rattle.classify.specs.Match.{side_of, judged_of, class_by, class_number}
 
@@ -53,7 +53,7 @@ side_at i e =
     let b = end_of i.triangles e in
     side_of (axes_at i a) (axes_at i b) (angle_between i.xs i.ys a b)
 
-unfoldable pub judged_at : Input → ℕ → Option GridSide
+unfoldable pub judged_at : Input → ℕ → Judged
 judged_at i e = judged_of i.params.tolerance (side_at i e)
 
 unfoldable pub class_at : Input → ℕ → Class

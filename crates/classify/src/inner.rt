@@ -8,7 +8,7 @@ ghost use Rattle.classify.specs.Call.{lengths_given};
 
 use crate::half_edge::{class_of, fit_of, judge_side, side_of};
 use crate::three::Three;
-use crate::{EdgeParams, GridSide, Side};
+use crate::{EdgeParams, Judged, Side};
 use axis::Axes;
 use axis::inner::cache_at;
 use mesh::Positions;
@@ -74,14 +74,14 @@ pub fn judge_triangle(
 }
 
 #[tactic(auto, unfolding(crate::specs::inner::Triangle::judgement_of))]
-fn judge_sides(sides: Three<Side>, tolerance: f32) -> Three<Option<GridSide>>
+fn judge_sides(sides: Three<Side>, tolerance: f32) -> Three<Judged>
     ensures { result ≡ judgement_of tolerance sides }
 {
     sides.map(|side| judge_side(side, tolerance))
 }
 
 #[tactic(auto, unfolding(crate::specs::inner::Triangle::class_words))]
-fn class_words(judged: Three<Option<GridSide>>) -> Three<u32>
+fn class_words(judged: Three<Judged>) -> Three<u32>
     ensures { result ≡ class_words judged }
 {
     let Three {
@@ -97,7 +97,7 @@ fn class_words(judged: Three<Option<GridSide>>) -> Three<u32>
 }
 
 #[tactic(auto, unfolding(crate::specs::inner::Triangle::fits_by))]
-fn fits_by(judged: Three<Option<GridSide>>) -> Three<f32>
+fn fits_by(judged: Three<Judged>) -> Three<f32>
     ensures { result ≡ fits_by judged }
 {
     judged.map(|own| fit_of(own))
@@ -105,7 +105,7 @@ fn fits_by(judged: Three<Option<GridSide>>) -> Three<f32>
 
 // A triangle's fits into the fit list: `write_triangles` has one without places, or with every place. An `Option` of a list is no plainer:
 // what becomes of the list behind it a contract can say only of its `exit`, by nested sums.
-fn tell_fits(fits: &mut [f32], e: usize, judged: Three<Option<GridSide>>)
+fn tell_fits(fits: &mut [f32], e: usize, judged: Three<Judged>)
     requires { (length fits.old ≡ 0) ⊎ (e + 2 < length fits.old) }
     ensures { fits.new ≡ stored fits.old e (fits_by judged) }
 {

@@ -48,6 +48,13 @@ pub struct GridSide {
     pub fit: f32,
 }
 
+// A half-edge for itself. Both cases are classes, and neither is a lack, so it is no `Option`.
+#[derive(Clone, Copy)]
+pub enum Judged {
+    Spurious,
+    Grid(GridSide),
+}
+
 #[derive(Clone, Copy)]
 pub struct EdgeParams {
     pub tolerance: f32,

@@ -4,6 +4,6 @@ use Rattle.std.proofs.Common.{rules}
 use Rattle.classify.specs.Fits.{fit_of}
 use Rattle.classify.proofs.half_edge.fit_of.Goals as goal
 
-pub returns : goal.returns
+pub returns-in-Spurious : goal.returns-in-Spurious
 unfolding fit_of neg of_bits
-returns c = search rules
+returns-in-Spurious c = search rules
