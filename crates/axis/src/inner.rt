@@ -9,13 +9,14 @@ use refusal::Refusal;
 pub fn rule_row(rule: SpreadRule) -> Result<(), Refusal>
     ensures { result ≡ rule_row rule }
 {
-    if rule.number == 1 || rule.number == 2 {
+    if matches!(rule.number, 1 | 2) {
         Ok(())
     } else {
         Err(Refusal::NoSuchRule)
     }
 }
 
+#[tactic(auto, unfolding(crate::specs::Cache::informative_of))]
 fn is_informative(spread: Option<f32>, rule: SpreadRule) -> bool
     ensures { result ≡ informative_of rule spread }
 {
@@ -43,17 +44,15 @@ pub fn cache_of(
 }
 
 // A spread of a lent list: the mark beside it is 0 for missing.
+#[tactic(auto, unfolding(crate::specs::Cache::spread_from))]
 pub fn spread_from(mark: u32, spread: f32) -> Option<f32>
     ensures { result ≡ spread_from mark spread }
 {
-    if mark == 0 {
-        None
-    } else {
-        Some(spread)
-    }
+    (mark != 0).then_some(spread)
 }
 
 // The cache of a corner from lists with two slots a corner, which row 1 of the call has let through.
+#[tactic(auto, unfolding(crate::specs::Cache::cache_at))]
 pub fn cache_at(axes: Axes<'_>, corner: usize, rule: SpreadRule) -> AxisCache
     requires { (2 * corner + 1 < length axes.angles.now) × (2 * corner + 1 < length axes.marks.now) × (2 * corner + 1 < length axes.spreads.now) }
     ensures { result ≡ cache_at rule axes.entry.angles.now axes.entry.marks.now axes.entry.spreads.now corner }

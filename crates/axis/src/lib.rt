@@ -8,8 +8,9 @@ use refusal::Refusal;
 
 pub mod inner;
 
-// What makes a spread informative: by which rule, 1 or 2, and below which limit.
-#[derive(Clone, Copy)]
+// What makes a spread informative: by which rule, 1 or 2, and below which limit. The rule is a number and no enum, since callers may give any:
+// row 18 refuses the others, and does so behind row 3.
+#[derive(Clone, Copy, Debug, PartialEq)]
 pub struct SpreadRule {
     pub number: u32,
     pub limit: f32,
@@ -24,8 +25,8 @@ pub struct Axes<'a> {
     pub spreads: &'a [f32],
 }
 
-// Two angles and two informative marks, slot 0 first.
-#[derive(Clone, Copy)]
+// Two angles and two informative marks, slot 0 first. They are fields and no array of slots, as C's struct and the definitions have them.
+#[derive(Clone, Copy, Debug, PartialEq)]
 pub struct AxisCache {
     pub angle0: f32,
     pub angle1: f32,
