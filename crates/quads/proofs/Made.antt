@@ -12,17 +12,17 @@ use lib.Seq.{take_at, drop-append-add, drop-drop, get_or-append-add, get_or-drop
 use Rattle.words.specs.Sorting.{one}
 use Rattle.quads.specs.declared.Quad.{Quad}
 use Rattle.std.specs.Int.{from_bool}
-use Rattle.std.specs.Option.{is_some}
 use Rattle.quads.specs.Order.{order_of}
+use Rattle.std.specs.Option.{is_some}
 use Rattle.quads.specs.Merge.{Mesh, Input, triangle_count, paired_at, made_by, quads_to, merged_of}
-use Rattle.quads.specs.inner.Merging.{is_four, count_to}
+use Rattle.quads.specs.inner.Merging.{count_to}
 use Rattle.quads.specs.Call.{words_of}
 
 pub made_more : (i : Input) (t : ℕ) → quads_to i (t + 1) ≡ quads_to i t ++ made_by i (paired_at i.mesh t)
 unfolding quads_to
 made_more i t = rw (add-one t)
 
-pub count_more : (m : Mesh) (t : ℕ) → count_to m (t + 1) ≡ count_to m t + one (is_four (paired_at m t))
+pub count_more : (m : Mesh) (t : ℕ) → count_to m (t + 1) ≡ count_to m t + one (is_some (paired_at m t))
 unfolding count_to
 count_more m t = rw (add-one t)
 
@@ -42,7 +42,7 @@ adds_none i t e = made_more i t ∙ rw (e, append-nil)
 
 -- ---- how many they are
 
-one_made : (i : Input) (p : Option Quad) → length (made_by i p) ≡ one (is_four p)
+one_made : (i : Input) (p : Option Quad) → length (made_by i p) ≡ one (is_some p)
 unfolding one
 one_made i None = refl
 one_made i (Some q) = refl
@@ -52,10 +52,14 @@ unfolding count_to quads_to
 count_is i zero = refl
 count_is i (suc t) = rw (length-append (quads_to i t) (made_by i (paired_at i.mesh t)), one_made i (paired_at i.mesh t), count_is i t)
 
+pub merged_count : (i : Input) → count_to i.mesh (triangle_count i.mesh) ≡ length (merged_of i)
+unfolding merged_of
+merged_count i = count_is i (triangle_count i.mesh)
+
 pub count_le : (m : Mesh) (t : ℕ) → count_to m t ≤ t
 unfolding count_to one
 count_le m zero = omega arith
-count_le m (suc t) = go (is_four (paired_at m t)) (count_le m t)
+count_le m (suc t) = go (is_some (paired_at m t)) (count_le m t)
   where
     go : (b : Bool) → count_to m t ≤ t → count_to m t + one b ≤ suc t
     go true h = omega arith

@@ -1,4 +1,4 @@
--- The call's three outcomes: refused by the gate, refused for room, done. Assumes nothing.
+-- The call's outcomes behind an open gate: refused for room, done. Assumes nothing.
 use mathlib.Core.Path.{◌≡◌}
 use mathlib.Core.List.{List, ◌++◌}
 use Prim.Native.Nat.{ℕ, ◌*◌, ◌/◌, ◌≤◌, ◌<◌}
@@ -7,16 +7,11 @@ use native.Mathlib.Omega.{arith}
 use lib.ListN.{length, drop}
 use Rattle.refusal.specs.Rows.{Gate}
 use Rattle.std.specs.Prelude.{Ok, Err}
-use Rattle.refusal.specs.declared.Refusal.{Refusal}
 use Rattle.refusal.specs.declared.Refusal.TheVariants.{RecordsShort}
 use Rattle.quads.specs.Merge.{Input, merged_of}
 use Rattle.quads.specs.Call.{gate_of, words_of, Outcome, call_of}
 
 module _ (i : Input) (quads : List ℕ) (g : Gate) (judged : g ≡ gate_of i) where
-  pub refused : (why : Refusal) → g ≡ Err why → ◌≡◌ {A = Outcome} (record { answer = Err why; quads = quads }) (call_of i quads)
-  unfolding call_of
-  refused why e = rw (← judged, e)
-
   pub short : (n : ℕ) → g ≡ Ok tt → n ≡ length (merged_of i) → length quads / 4 < n → ◌≡◌ {A = Outcome} (record { answer = Err (RecordsShort n); quads = quads }) (call_of i quads)
   unfolding call_of
   short n e c h = rw (← judged, e, ← c, lt-ltb (length quads / 4) n h)

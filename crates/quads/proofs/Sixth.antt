@@ -15,8 +15,9 @@ use Rattle.mesh.specs.HalfEdge.{triangle_of}
 use Rattle.mesh.proofs.Open.{twin_sound}
 use Rattle.quads.specs.declared.Quad.{Quad}
 use Rattle.quads.specs.Diagonal.{only_at}
+use Rattle.std.specs.Option.{is_some}
 use Rattle.quads.specs.Merge.{Mesh, Input, triangle_count, paired_at, merged_of}
-use Rattle.quads.specs.inner.Merging.{Sound, is_four, count_to}
+use Rattle.quads.specs.inner.Merging.{Sound, count_to}
 use Rattle.quads.proofs.Side.{only_own}
 use Rattle.quads.proofs.Pairs.{Pair, paired, other_in}
 use Rattle.quads.proofs.Made.{count_is}
@@ -69,7 +70,7 @@ count_lower i s (suc t) h = rw (← add-one t) (go (paired_at i.mesh t) refl (co
     n : ℕ
     n = triangle_count i.mesh
 
-    go : (p : Option Quad) → paired_at i.mesh t ≡ p → 2 * count_to i.mesh t ≤ below (lower i.mesh) n t → 2 * (count_to i.mesh t + one (is_four p)) ≤ below (lower i.mesh) n (t + 1)
+    go : (p : Option Quad) → paired_at i.mesh t ≡ p → 2 * count_to i.mesh t ≤ below (lower i.mesh) n t → 2 * (count_to i.mesh t + one (is_some p)) ≤ below (lower i.mesh) n (t + 1)
     go None e ih = omega (arith, below_step (lower i.mesh) t n)
     go (Some q) e ih = omega (arith, below_step (lower i.mesh) t n, two_lower i s t q (omega arith) e)
 

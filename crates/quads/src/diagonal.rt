@@ -3,7 +3,6 @@ ghost use Rattle.std.specs.Prelude.{◌≡◌, ◌+◌, ◌*◌, ◌≤◌, leng
 ghost use Rattle.quads.specs.Diagonal.{only_at};
 
 use classify::Class;
-use classify::inner::class_from;
 
 // The half-edge that is triangle t's one Diagonal side, where its other two are Grid.
 #[tactic(auto, unfolding(crate::specs::Diagonal::only_by, crate::specs::Diagonal::only_at))]
@@ -12,9 +11,9 @@ pub(crate) fn only_diagonal(classes: &[u32], t: usize) -> Option<usize>
     ensures { result ≡ only_at classes.now t }
 {
     let base = 3 * t;
-    let first = class_from(classes[base]);
-    let second = class_from(classes[base + 1]);
-    let third = class_from(classes[base + 2]);
+    let first = Class::from(classes[base]);
+    let second = Class::from(classes[base + 1]);
+    let third = Class::from(classes[base + 2]);
     match (first, second, third) {
         (Class::Diagonal, Class::Grid, Class::Grid) => Some(base),
         (Class::Grid, Class::Diagonal, Class::Grid) => Some(base + 1),

@@ -26,10 +26,7 @@ pub fn store(quads: &mut [u32], at: usize, q: Quad)
     requires { at + 3 < length quads.old }
     ensures { quads.new ≡ take at quads.old ++ ((q.a ∷ q.b ∷ q.c ∷ q.d ∷ []) ++ drop (at + 4) quads.old) }
 {
-    quads[at] = q.a;
-    quads[at + 1] = q.b;
-    quads[at + 2] = q.c;
-    quads[at + 3] = q.d;
+    quads[at..at + 4].copy_from_slice(&[q.a, q.b, q.c, q.d]);
 }
 
 // The quads at the front of their list; answers how many. `merge_triangle_pairs` and a frame show what is asked by their rows.

@@ -16,7 +16,7 @@ mod order;
 mod pair;
 
 // Four corners.
-#[derive(Clone, Copy)]
+#[derive(Clone, Copy, Debug, PartialEq, Eq)]
 pub struct Quad {
     pub a: u32,
     pub b: u32,
@@ -33,6 +33,7 @@ pub struct Mesh<'a> {
 }
 
 // Writes a quad, four corners, for each pair of triangles, in order of the lower one; answers how many.
+#[tactic(auto, unfolding(crate::specs::Call::call_of))]
 pub fn merge_triangle_pairs(
     corners: Positions<'_>,
     mesh: Mesh<'_>,

@@ -2,31 +2,19 @@
 use mathlib.Core.Path.{◌≡◌, sym, ◌∙◌}
 use Prim.Native.Nat.{ℕ, ◌*◌, ◌/◌, ◌≤◌, ◌<◌}
 use native.Mathlib.Omega.{arith}
-use lib.ListN.{length}
-use Rattle.std.proofs.lemmas.Result.{err_from_is_err_and}
-use Rattle.quads.specs.Merge.{Input, merged_of, triangle_count}
+use Rattle.quads.specs.Merge.{Input, triangle_count}
 use Rattle.quads.specs.inner.Merging.{Sound, count_to}
 use Rattle.quads.proofs.Sound.{gate_sound}
-use Rattle.quads.proofs.Made.{count_is, count_le}
-use Rattle.quads.proofs.Outcomes.{refused, short, done}
+use Rattle.quads.proofs.Made.{merged_count, count_le}
+use Rattle.quads.proofs.Outcomes.{short, done}
 use Rattle.quads.proofs.merge_triangle_pairs.Goals as goal
 
--- the count is how many quads there are
-counted : (i : Input) (n : ℕ) → n ≡ count_to i.mesh (triangle_count i.mesh) → n ≡ length (merged_of i)
-unfolding merged_of
-counted i n e = e ∙ count_is i (triangle_count i.mesh)
-
--- and few enough for a word
+-- few enough for a word
 few : (i : Input) (n : ℕ) → Sound i → n ≡ count_to i.mesh (triangle_count i.mesh) → n < 4294967296
 few i n s e = omega (arith, count_le i.mesh (triangle_count i.mesh), s.mesh.edges)
 
 four : (n m k : ℕ) → n ≡ m → n ≤ k / 4 → 4 * m ≤ k
 four n m k e h = omega arith
-
-pub returns-in_err-judge : goal.returns-in_err-judge
-returns-in_err-judge c =
-    let p = err_from_is_err_and c.from_residual.result c.from_residual.ensures.1 in
-    rw (p.1, p.2) (refused _ _ _ c.judge.ensures _ c.in_err-judge.was)
 
 pub count_quads-count-requires : goal.count_quads-count-requires
 count_quads-count-requires c = (gate_sound _ (sym c.judge.ensures ∙ c.in_ok-judge.was)).mesh
@@ -35,13 +23,13 @@ pub overflow_cast-result : goal.overflow_cast-result
 overflow_cast-result c = omega (arith, few _ _ (gate_sound _ (sym c.judge.ensures ∙ c.in_ok-judge.was)) c.count_quads-count.ensures)
 
 pub returns-then-quads-count : goal.returns-then-quads-count
-returns-then-quads-count c = short _ _ _ c.judge.ensures _ c.in_ok-judge.was (counted _ _ c.count_quads-count.ensures) c.if-quads-count.true
+returns-then-quads-count c = short _ _ _ c.judge.ensures _ c.in_ok-judge.was (c.count_quads-count.ensures ∙ merged_count _) c.if-quads-count.true
 
 pub write_quads-requires : goal.write_quads-requires
-write_quads-requires c = (gate_sound _ (sym c.judge.ensures ∙ c.in_ok-judge.was), four _ _ _ (counted _ _ c.count_quads-count.ensures) c.if-quads-count.false)
+write_quads-requires c = (gate_sound _ (sym c.judge.ensures ∙ c.in_ok-judge.was), four _ _ _ (c.count_quads-count.ensures ∙ merged_count _) c.if-quads-count.false)
 
 pub overflow_cast-result-2 : goal.overflow_cast-result-2
 overflow_cast-result-2 c = omega (arith, few _ _ (gate_sound _ (sym c.judge.ensures ∙ c.in_ok-judge.was)) c.count_quads-count.ensures)
 
 pub returns : goal.returns
-returns c = done _ _ _ c.judge.ensures _ _ c.in_ok-judge.was (counted _ _ c.count_quads-count.ensures) c.if-quads-count.false c.write_quads.ensures.1
+returns c = done _ _ _ c.judge.ensures _ _ c.in_ok-judge.was (c.count_quads-count.ensures ∙ merged_count _) c.if-quads-count.false c.write_quads.ensures.1

@@ -1,7 +1,6 @@
 -- What the routines of merging are given: what the rows have shown of an input that they let through. And what the count of pairs answers.
-use Rattle.quads.specs.declared.Quad.{Quad}
-use Rattle.std.specs.Prelude.{Option, Some, None}
-use Rattle.std.specs.Prelude.{◌≡◌, Bool, true, false, ℕ, zero, suc, ◌+◌, ◌*◌, ◌%◌, ◌≤◌, ◌<◌, List, ◌++◌, length, get_or, drop}
+use Rattle.std.specs.Option.{is_some}
+use Rattle.std.specs.Prelude.{◌≡◌, false, ℕ, zero, suc, ◌+◌, ◌*◌, ◌%◌, ◌≤◌, ◌<◌, List, ◌++◌, length, get_or, drop}
 use Rattle.words.specs.Sorting.{one}
 use Rattle.mesh.specs.Lists.{most_corners, most_half_edges}
 use Rattle.mesh.specs.HalfEdge.{no_twin}
@@ -28,14 +27,10 @@ pub record Sound (i : Input) : Type 0 where
   pub differ : (t : ℕ) → t < triangle_count i.mesh → names_twice 3 i.mesh.triangles t ≡ false
   pub back : (e : ℕ) → e < length i.mesh.triangles → twin_offends i.mesh.triangles i.mesh.twins e ≡ false
 
-abbrev pub is_four : Option Quad → Bool
-is_four None = false
-is_four (Some q) = true
-
 -- how many of the triangles below t make a quad
 unfoldable pub count_to : Mesh → ℕ → ℕ
 count_to m zero = 0
-count_to m (suc t) = count_to m t + one (is_four (paired_at m t))
+count_to m (suc t) = count_to m t + one (is_some (paired_at m t))
 
 -- the quads stand at the front of the list, and the rest of it is as it was; r tells how many they are
 abbrev pub Writes : Input → (before after : List ℕ) → ℕ → Type 0
