@@ -2,7 +2,7 @@
 ghost use Rattle.std.specs.Prelude.{◌≡◌, ◌+◌, ◌*◌, ◌<◌, length};
 ghost use Rattle.axis.specs.Cache.{rule_row, informative_of, spread_from, cache_of, cache_at};
 
-use crate::{Axes, AxisCache, SpreadRule};
+use crate::{Axes, AxisCache, Spread, SpreadRule};
 use refusal::Refusal;
 
 // Row 18: there are the rules 1 and 2.
@@ -17,20 +17,20 @@ pub fn rule_row(rule: SpreadRule) -> Result<(), Refusal>
 }
 
 #[tactic(auto, unfolding(crate::specs::Cache::informative_of))]
-fn is_informative(spread: Option<f32>, rule: SpreadRule) -> bool
+fn is_informative(spread: Spread, rule: SpreadRule) -> bool
     ensures { result ≡ informative_of rule spread }
 {
     match spread {
-        None => rule.number == 1,
-        Some(x) => measure::inner::is_finite(x) && x < rule.limit,
+        Spread::Missing => rule.number == 1,
+        Spread::Known(x) => measure::inner::is_finite(x) && x < rule.limit,
     }
 }
 
 pub fn cache_of(
     angle0: f32,
-    spread0: Option<f32>,
+    spread0: Spread,
     angle1: f32,
-    spread1: Option<f32>,
+    spread1: Spread,
     rule: SpreadRule,
 ) -> AxisCache
     ensures { result ≡ cache_of rule angle0 spread0 angle1 spread1 }
@@ -45,10 +45,14 @@ pub fn cache_of(
 
 // A spread of a lent list: the mark beside it is 0 for missing.
 #[tactic(auto, unfolding(crate::specs::Cache::spread_from))]
-pub fn spread_from(mark: u32, spread: f32) -> Option<f32>
+pub fn spread_from(mark: u32, spread: f32) -> Spread
     ensures { result ≡ spread_from mark spread }
 {
-    (mark != 0).then_some(spread)
+    if mark == 0 {
+        Spread::Missing
+    } else {
+        Spread::Known(spread)
+    }
 }
 
 // The cache of a corner from lists with two slots a corner, which row 1 of the call has let through.

@@ -8,6 +8,13 @@ use refusal::Refusal;
 
 pub mod inner;
 
+// A spread is either missing or a number. An enum of its own, as document 01 has the form of it.
+#[derive(Clone, Copy, Debug, PartialEq)]
+pub enum Spread {
+    Missing,
+    Known(f32),
+}
+
 // What makes a spread informative: by which rule, 1 or 2, and below which limit. The rule is a number and no enum, since callers may give any:
 // row 18 refuses the others, and does so behind row 3.
 #[derive(Clone, Copy, Debug, PartialEq)]
@@ -38,9 +45,9 @@ pub struct AxisCache {
 #[tactic(auto, unfolding(crate::specs::Cache::cache_call))]
 pub fn axis_cache(
     angle0: f32,
-    spread0: Option<f32>,
+    spread0: Spread,
     angle1: f32,
-    spread1: Option<f32>,
+    spread1: Spread,
     rule: SpreadRule,
 ) -> Result<AxisCache, Refusal>
     ensures { result ≡ cache_call rule angle0 spread0 angle1 spread1 }
