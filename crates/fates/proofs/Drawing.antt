@@ -15,7 +15,7 @@ use Rattle.laying.specs.inner.Settling.{Bears}
 use Rattle.fates.specs.inner.Fates.{records_at, corner_in, seed_in}
 use Rattle.fates.specs.inner.Gathering.{Copied, Recorded, Drawn}
 
--- ---- nothing, a mark, a corner
+-- ---- a mark, a corner
 
 pub drawn_mark : {span n seed m : ℕ} {xs : List ℕ} (q : ℕ) → q < n → n ≤ span → 4 * span ≤ length xs → Drawn span n seed xs (set xs q 0) m m
 drawn_mark {span} {n} {seed} {m} {xs} q h few room = record {

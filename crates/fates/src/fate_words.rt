@@ -1,4 +1,4 @@
-// A fate as the two words that stand for it in the workspace, and back: each fate is read as it was written.
+// A fate as the two words that stand for it in the workspace, which is a lent list of words, and back: each fate is read as it was written.
 ghost use Rattle.std.specs.Prelude.{◌≡◌};
 ghost use Rattle.fates.specs.inner.FateWords.{fate_number, claimed_in, fate_from};
 

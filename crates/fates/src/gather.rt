@@ -62,7 +62,8 @@ fn take(sheet: Sheet<'_>, work: &mut [u32], seed: usize, m: usize, tail: usize) 
     r
 }
 
-// The walk from a group's lowest quad: how many quads it reached, with the records of their corners, or 0 where there is no labelling.
+// The walk from a group's lowest quad: how many quads it reached, with the records of their corners, or 0 where there is no labelling (a word
+// of the lent workspace holds no Option).
 fn walk_from(sheet: Sheet<'_>, work: &mut [u32], seed: usize, m: usize) -> usize
     requires seed_lt_n { seed < sheet.count }
     requires begun { Begun sheet.span sheet.quads.now sheet.count seed m work.old }

@@ -1,5 +1,6 @@
 // The fate of every quad, which is its group's where it is the lowest: by the number of the group's quads, the walk's answer and the number
 // of lone corners. Beside it the place of the group's records, and the number of pairs that several corners claim.
+// The routines take the workspace and the numbers of its layout one by one: it is a lent list, written while it is read.
 ghost use Rattle.std.specs.Prelude.{◌≡◌, ◌+◌, ◌*◌, ◌≤◌, ◌<◌, ◌↔◌, IsTrue, length};
 ghost use Rattle.cells.specs.Counted.{Exactly};
 ghost use Rattle.fates.specs.inner.Index.{Stretch};

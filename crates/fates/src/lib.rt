@@ -27,7 +27,8 @@ pub enum Fate {
     Kept(u32),
 }
 
-// Records of corners in the workspace: where the first of them stands, and how many they are.
+// Records of corners in the workspace: where the first of them stands, and how many they are. A place and a number, no slice: the runs are
+// kept in the workspace itself, which is one lent list.
 #[derive(Clone, Copy, Debug, PartialEq, Eq)]
 pub struct Run {
     pub at: usize,

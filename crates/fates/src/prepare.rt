@@ -8,7 +8,7 @@ ghost use Rattle.words.specs.Sorting.{equal};
 ghost use Rattle.laying.specs.inner.Layout.{key_at};
 ghost use Rattle.fates.specs.inner.Fates.{groups_at};
 ghost use Rattle.fates.specs.inner.Runs.{Rising, Told, Started};
-ghost use Rattle.fates.specs.inner.Prepared.{Sided, Ready};
+ghost use Rattle.fates.specs.inner.Prepared.{Counted, Sided, Ready};
 
 use cells::inner::groups;
 use laying::inner::layout::{FLAGS, GROUPS, RUNS};
@@ -58,27 +58,27 @@ fn tell_runs(work: &mut [u32], span: usize, n: usize)
     }
 }
 
-// Adds 1 to the word of each quad's group.
-fn tally_groups(work: &mut [u32], at: usize, n: usize)
-    requires n_in_bounds { (at + 2 * n ≤ length work.old) × (n ≤ most_corners) }
-    requires by_index { (q : ℕ) → q < n → get_or work.old (at + q) 0 < n }
-    requires cleared { (s : ℕ) → s < n → get_or work.old (at + n + s) 0 ≡ 0 }
-    ensures { Filled work.old work.new (at + n) n n (equal (λ (q : ℕ). get_or work.old (at + q) 0) n) }
+// By the numbers of the quads' groups, how many quads each group has.
+fn tally_groups(numbers: &[u32], counts: &mut [u32])
+    requires few { (length counts.old ≡ length numbers.now) × (length numbers.now ≤ most_corners) }
+    requires by_index { (q : ℕ) → q < length numbers.now → get_or numbers.now q 0 < length numbers.now }
+    ensures { Counted numbers.now (length numbers.now) counts.new }
 {
-    for q in 0..n {
-        let s = work[at + q] as usize;
-        work[at + n + s] += 1;
+    counts.fill(0);
+    for s in numbers {
+        counts[*s as usize] += 1;
     }
 }
 
-// How many quads each group has, in the n words past the groups' numbers.
-fn count_members(work: &mut [u32], at: usize, n: usize)
-    requires n_in_bounds { (at + 2 * n ≤ length work.old) × (n ≤ most_corners) }
-    requires by_index { (q : ℕ) → q < n → get_or work.old (at + q) 0 < n }
-    ensures { Filled work.old work.new (at + n) n n (equal (λ (q : ℕ). get_or work.old (at + q) 0) n) }
+// How many quads each group has, behind the numbers of the n quads' groups.
+#[tactic(auto, using(crate::proofs::Members::counted_behind))]
+fn count_members(part: &mut [u32], n: usize)
+    requires n_in_bounds { (length part.old ≡ 2 * n) × (n ≤ most_corners) }
+    requires by_index { (q : ℕ) → q < n → get_or part.old q 0 < n }
+    ensures { Filled part.old part.new n n n (equal (λ (q : ℕ). get_or part.old q 0) n) }
 {
-    work[at + n..at + n + n].fill(0);
-    tally_groups(work, at, n);
+    let (numbers, counts) = part.split_at_mut(n);
+    tally_groups(numbers, counts);
 }
 
 // The front is made zero last, since the groups were listed at its end.
@@ -88,11 +88,12 @@ pub(crate) fn prepare(sheet: Sheet<'_>, work: &mut [u32])
 {
     let n = sheet.count;
     let table = 4 * sheet.span;
+    let numbers = table + GROUPS * n;
     let flags = table + FLAGS * n;
     list_groups(sheet, work);
     tell_runs(work, sheet.span, n);
     move_groups(work, sheet.span, n);
-    count_members(work, table + GROUPS * n, n);
+    count_members(&mut work[numbers..numbers + 2 * n], n);
     work[..table].fill(0);
     work[flags..flags + 4 * n].fill(0);
 }

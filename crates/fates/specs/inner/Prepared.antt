@@ -17,6 +17,11 @@ pub record SideTable (span : ℕ) (cells : List ℕ) (n : ℕ) (w : List ℕ) : 
   pub small : (e : ℕ) → e < 4 * n → place_of e < 4 * n
   pub is : (e : ℕ) → e < 4 * n → number_at span w (place_of e) ≡ e
 
+-- for each number s below how many numbers there are: how many of the first j are s
+pub record Counted (numbers : List ℕ) (j : ℕ) (counts : List ℕ) : Type 0 where
+  pub len : length counts ≡ length numbers
+  pub each : (s : ℕ) → s < length numbers → get_or counts s 0 ≡ equal (λ (q : ℕ). get_or numbers q 0) j s
+
 -- the n words from a on are the numbers of the quads' groups
 abbrev pub Numbered : List ℕ → ℕ → List ℕ → ℕ → Type 0
 Numbered cells n w a = Groups (Neighbours 4 cells everyone) n (λ (q : ℕ). get_or w (a + q) 0)
