@@ -8,7 +8,6 @@ use lib.ListN.{get_or}
 use Rattle.words.specs.inner.Order.{word_of}
 use Rattle.words.specs.inner.Regions.{Filled}
 use Rattle.filter.specs.inner.Layout.{records_at, gathered_at, lengths_at}
-use Rattle.filter.specs.inner.Steps.{Gathered}
 
 -- the length that goes to place e
 abbrev pub length_to : List ℕ → ℕ → ℕ → ℕ
@@ -25,12 +24,3 @@ module _ {xs ys : List ℕ} {n e q : ℕ} {f : ℕ → ℕ} (filled : Filled xs 
   pub length_next : get_or ys (lengths_at n + (4 * q + e % 4)) 0 ≡ length_to xs n e
   length_next =
       filled.kept.rest (lengths_at n + (4 * q + e % 4)) (λ j l i. omega arith) ∙ ap (λ (z : ℕ). get_or xs (lengths_at n + (4 * z + e % 4)) 0) number_is
-
-pub gathered : {xs ys : List ℕ} {n : ℕ} → Filled xs ys (gathered_at n) (4 * n) (4 * n) (length_to xs n) → Gathered n xs ys
-gathered {xs} {ys} {n} filled = record { kept = filled.kept; lengths = at }
-  where
-    at : (k j : ℕ) → k < n → j < 4 → get_or ys (gathered_at n + (4 * k + j)) 0 ≡ get_or xs (lengths_at n + (4 * word_of xs (records_at n) 0 k + j)) 0
-    at k j h b =
-        let quotient : (4 * k + j) / 4 ≡ k = omega arith in
-        let rest : (4 * k + j) % 4 ≡ j = omega arith in
-        rw (quotient, rest) at (filled.holds (4 * k + j) (omega arith))

@@ -1,12 +1,15 @@
 -- Laws of the quads kept: how they grow, how many they are, and the list that holds them at its front. Assumes nothing.
 use mathlib.Core.Path.{◌≡◌, refl, sym, ap, ◌∙◌}
 use mathlib.Core.List.{List, [], ◌∷◌, ◌++◌, append-nil}
-use Prim.Native.Nat.{ℕ, zero, suc, ◌+◌, ◌*◌, ◌/◌, ◌≤◌, ◌<◌}
+use Prim.Native.Nat.{ℕ, zero, suc, ◌+◌, ◌*◌, ◌≤◌, ◌<◌}
 use native.Mathlib.Numerals.{add-one}
 use native.Mathlib.Decide.{ℕ_discrete}
 use native.Mathlib.Omega.{arith}
 use borrow.Author.Tests.{eq-eqb, ne_eqb}
+use lib.Dec.{eqb}
 use lib.ListN.{length, get_or, take, drop, length-append}
+use Rattle.std.specs.List.{count_by}
+use Rattle.std.proofs.lemmas.List.Sums.{count_by_more_no, count_by_more_yes}
 use Rattle.words.specs.Sorting.{equal}
 use Rattle.words.proofs.Rank.{equal_zero, equal_yes, equal_no, equal_le, equal_mono, rec_on}
 use Rattle.quads.specs.declared.Quad.{Quad}
@@ -41,8 +44,20 @@ module _ (quads : List ℕ) (mark : ℕ → ℕ) where
   kept_le n = omega (arith, kept_count n, equal_le mark 0 n)
 
   -- one that is kept leaves fewer before it
-  pub kept_room : (q n : ℕ) → mark q ≡ 0 → q < n → length (kept_to quads mark q) + 1 ≤ length (kept_to quads mark n)
+  kept_room : (q n : ℕ) → mark q ≡ 0 → q < n → length (kept_to quads mark q) + 1 ≤ length (kept_to quads mark n)
   kept_room q n e h = omega (arith, equal_mono mark 0 (q + 1) n (omega arith), equal_yes mark q 0 e, kept_count q, kept_count n)
+
+-- how many words at the front of a list are 0
+pub zeros_counted : (xs : List ℕ) (n : ℕ) → n ≤ length xs → count_by (λ (x : ℕ). eqb x 0) (take n xs) ≡ equal (λ (q : ℕ). get_or xs q 0) n 0
+zeros_counted xs = rec_on (λ n. n ≤ length xs → count_by (λ (x : ℕ). eqb x 0) (take n xs) ≡ equal (λ (q : ℕ). get_or xs q 0) n 0) (λ h. sym (equal_zero _ 0)) turn
+  where
+    turn : (n : ℕ) → (n ≤ length xs → count_by (λ (x : ℕ). eqb x 0) (take n xs) ≡ equal (λ (q : ℕ). get_or xs q 0) n 0) → n + 1 ≤ length xs
+        → count_by (λ (x : ℕ). eqb x 0) (take (n + 1) xs) ≡ equal (λ (q : ℕ). get_or xs q 0) (n + 1) 0
+    turn n ih h = go (ℕ_discrete (get_or xs n 0) 0)
+      where
+        go : Dec (get_or xs n 0 ≡ 0) → count_by (λ (x : ℕ). eqb x 0) (take (n + 1) xs) ≡ equal (λ (q : ℕ). get_or xs q 0) (n + 1) 0
+        go (yes e) = count_by_more_yes _ xs n 0 (omega arith) (eq-eqb _ 0 e) ∙ ap (λ (k : ℕ). k + 1) (ih (omega arith)) ∙ sym (equal_yes _ n 0 e)
+        go (no d) = count_by_more_no _ xs n 0 (omega arith) (ne_eqb _ 0 d) ∙ ih (omega arith) ∙ sym (equal_no _ n 0 d)
 
 -- lists that agree on four words have one quad there
 quad_same : (quads others : List ℕ) (q : ℕ) → ((k : ℕ) → 4 * q ≤ k → k < 4 * q + 4 → get_or quads k 0 ≡ get_or others k 0) → quad_at quads q ≡ quad_at others q
@@ -102,8 +117,3 @@ module _ (quads : List ℕ) (mark : ℕ → ℕ) (now : List ℕ) (at q : ℕ) (
 
   pub quad_unmoved : quad_at now q ≡ quad_at quads q
   quad_unmoved = quad_same now quads q (λ k a b. held_behind (kept_to quads mark q) quads now w.held k (omega (arith, w.end, wrote_before)))
-
-  pub wrote_counted : (at / 4 ≡ length (kept_to quads mark q)) × (now ≡ words_of (kept_to quads mark q) ++ drop (4 * (at / 4)) quads)
-  wrote_counted =
-      let many : at / 4 ≡ length (kept_to quads mark q) = omega (arith, w.end) in
-      (many, rw many w.held)

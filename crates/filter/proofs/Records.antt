@@ -5,14 +5,10 @@ use Prim.Native.Nat.{ℕ, ◌+◌, ◌*◌, ◌≤◌, ◌<◌}
 use native.Mathlib.Omega.{arith}
 use lib.ListN.{length, get_or}
 use Rattle.words.specs.inner.Regions.{two}
-use Rattle.words.proofs.Regions.{kept_refl}
 use Rattle.words.proofs.Moving.{two_cases, two_kept}
 use Rattle.cells.specs.inner.Table.{groups_at}
 use Rattle.filter.specs.inner.Layout.{records_at}
 use Rattle.filter.specs.inner.Steps.{Recorded}
-
-pub recorded_none : (n : ℕ) (xs : List ℕ) → Recorded n 0 xs xs
-recorded_none n xs = record { kept = kept_refl xs (records_at n) (2 * n); numbers = λ q h. absurd (omega arith); groups = λ q h. absurd (omega arith) }
 
 -- a group stands outside the records, so it is as it was
 copied_group : {n m : ℕ} {xs ys : List ℕ} → Recorded n m xs ys → m < n → get_or ys (groups_at n + m) 0 ≡ get_or xs (groups_at n + m) 0

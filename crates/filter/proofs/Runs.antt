@@ -1,6 +1,6 @@
--- Runs of one group where groups ascend: where one ends, and that the medians of the first s records become those of the first e when
--- the middle one of the lengths of the run from s up to e is stored at its group. Assumes nothing.
-use mathlib.Core.Path.{◌≡◌, refl, sym, ap, ◌∙◌}
+-- Runs of one group where groups ascend: the medians of the first s records become those of the first e when the middle one of the
+-- lengths of the run from s up to e is stored at its group. Assumes nothing.
+use mathlib.Core.Path.{◌≡◌, sym, ap, ◌∙◌}
 use mathlib.Core.List.{List}
 use Prim.Native.Nat.{ℕ, ◌+◌, ◌*◌, ◌-◌, ◌≤◌, ◌<◌}
 use native.Mathlib.Decide.{dec_lt}
@@ -15,23 +15,6 @@ use Rattle.words.proofs.Regions.{part_at, part_kept}
 use Rattle.words.proofs.Counting.{middle_same}
 use Rattle.filter.specs.inner.Layout.{records_at, gathered_at, medians_at}
 use Rattle.filter.specs.inner.Steps.{Run, MedianAt, Rising, Centred}
-
-pub run_ends : (group : ℕ → ℕ) (m s e : ℕ) → ((j k : ℕ) → j ≤ k → k < m → group j ≤ group k) → s < e → e ≤ m → ((k : ℕ) → k < s → group k < group s) → ((k : ℕ) → s ≤ k → k < e → group k ≡ group s) → (e < m → group e ≡ group s → ⊥) → Run group m s e
-run_ends group m s e rises some within before alike stop = record {
-  some = some;
-  within = within;
-  alike = alike;
-  before = before;
-  after = λ k h l. omega (arith, rises e k h l, rises s e (omega arith) (omega arith), stop (omega arith));
-}
-
--- one more place of the same group
-pub alike_more : (group : ℕ → ℕ) (s e : ℕ) → ((k : ℕ) → s ≤ k → k < e → group k ≡ group s) → group e ≡ group s → (k : ℕ) → s ≤ k → k < e + 1 → group k ≡ group s
-alike_more group s e alike here k h l = go (dec_lt k e)
-  where
-    go : Dec (k < e) → group k ≡ group s
-    go (yes y) = alike k h y
-    go (no y) = ap group (omega arith) ∙ here
 
 -- the place after a run has a higher group than all before it
 run_next : {group : ℕ → ℕ} {m s e : ℕ} → Run group m s e → (k : ℕ) → k < e → e < m → group k < group e
@@ -59,12 +42,6 @@ run_same {f} {g} {m} {s} {e} same r = record {
 records_kept : {n m : ℕ} {xs ys : List ℕ} → Centred n m xs ys → (c k : ℕ) → c < 2 → k < n → word_of ys (records_at n) c k ≡ word_of xs (records_at n) c k
 records_kept {n} q c k h l = q.rest (records_at n + 2 * k + c) (λ j b e. omega arith) (λ j b e. omega arith)
 
-pub rising_kept : {n m : ℕ} {xs ys : List ℕ} → Centred n m xs ys → Rising n xs → Rising n ys
-rising_kept {n} q r = record {
-  rising = λ j k h l. omega (arith, r.rising j k h l, records_kept q 1 j (omega arith) (omega arith), records_kept q 1 k (omega arith) l);
-  small = λ k l. omega (arith, r.small k l, records_kept q 1 k (omega arith) l);
-}
-
 -- a group before the run keeps its median, since it is lower
 median_earlier : {n : ℕ} {xs ys zs : List ℕ} {k : ℕ} → get_or zs (medians_at n + word_of xs (records_at n) 1 k) 0 ≡ get_or ys (medians_at n + word_of xs (records_at n) 1 k) 0 → MedianAt n xs ys k → MedianAt n xs zs k
 median_earlier {n} {xs} e m = record { s = m.s; e = m.e; run = m.run; from = m.from; to = m.to; is = rw e m.is }
@@ -77,19 +54,7 @@ pub record RunsTo (n s : ℕ) (xs ys : List ℕ) : Type 0 where
   pub ahead : (j : ℕ) → 4 * s ≤ j → j < 4 * n → get_or ys (gathered_at n + j) 0 ≡ get_or xs (gathered_at n + j) 0
   pub begins : (k : ℕ) → k < s → s < n → word_of xs (records_at n) 1 k < word_of xs (records_at n) 1 s
 
-pub runs_none : (n : ℕ) (xs : List ℕ) → RunsTo n 0 xs xs
-runs_none n xs = record {
-  within = omega arith;
-  centred = record { len = refl; rest = λ k o u. refl; medians = λ k h. absurd (omega arith) };
-  ahead = λ j h l. refl;
-  begins = λ k h. absurd (omega arith);
-}
-
--- the same of the list as it stands
-pub begins_kept : {n s : ℕ} {xs ys : List ℕ} → RunsTo n s xs ys → s < n → (k : ℕ) → k < s → word_of ys (records_at n) 1 k < word_of ys (records_at n) 1 s
-begins_kept {n} {s} t l k h = omega (arith, t.begins k h l, records_kept t.centred 1 k (omega arith) (omega arith), records_kept t.centred 1 s (omega arith) l)
-
-pub group_small : {n s : ℕ} {xs ys : List ℕ} → Rising n xs → RunsTo n s xs ys → s < n → word_of ys (records_at n) 1 s < n
+group_small : {n s : ℕ} {xs ys : List ℕ} → Rising n xs → RunsTo n s xs ys → s < n → word_of ys (records_at n) 1 s < n
 group_small {n} {s} rising t l = omega (arith, rising.small s l, records_kept t.centred 1 s (omega arith) l)
 
 -- where a run's lengths stand

@@ -4,6 +4,7 @@ use Rattle.std.specs.Float.Ieee as Ieee
 use Rattle.std.specs.Float.{nan, binary32}
 use Rattle.std.specs.Borrow.{Bor}
 use Rattle.measure.specs.Length.{length_of}
+use Rattle.mesh.specs.declared.Positions.{Positions}
 use Rattle.cells.specs.Cells.{cell}
 use Rattle.filter.specs.declared.FilterParams.{FilterParams}
 
@@ -14,8 +15,8 @@ pub record Input : Type 0 where
   pub params : FilterParams
 
 -- what lent lists hold, in the order in which the call takes them
-abbrev pub given : (x y : Bor (List Float)) (quads : Bor (List ℕ)) → FilterParams → Input
-given x y quads params = record { xs = x.now; ys = y.now; quads = quads.now; params = params }
+abbrev pub given : (corners : Positions) (quads : Bor (List ℕ)) → FilterParams → Input
+given corners quads params = record { xs = corners.x.now; ys = corners.y.now; quads = quads.now; params = params }
 
 abbrev pub quad_count : Input → ℕ
 quad_count i = length i.quads / 4

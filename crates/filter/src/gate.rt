@@ -6,6 +6,7 @@ ghost use Rattle.filter.specs.Call.{lengths_gate, params_gate, values_gate, gate
 
 use crate::FilterParams;
 use measure::inner::parameter_row;
+use mesh::Positions;
 use mesh::inner::cells::{corners_row, twice_row};
 use mesh::inner::lists::{
     MOST_CORNERS, MOST_QUADS, limit_row, paired_row, quad_words, whole_row, work_row,
@@ -36,36 +37,35 @@ fn params_gate(params: FilterParams) -> Result<(), Refusal>
 
 // Rows 4 to 6, for lists that rows 1 and 2 let through.
 #[tactic(auto, unfolding(crate::specs::Call::values_gate))]
-fn values_gate(x: &[f32], y: &[f32], quads: &[u32]) -> Result<(), Refusal>
-    requires { (length y.now ≡ length x.now) × (length x.now ≤ most_corners) × (length quads.now / 4 ≤ most_quads) }
-    ensures { result ≡ values_gate x.now y.now quads.now }
+fn values_gate(corners: Positions<'_>, quads: &[u32]) -> Result<(), Refusal>
+    requires { (length corners.y.now ≡ length corners.x.now) × (length corners.x.now ≤ most_corners) × (length quads.now / 4 ≤ most_quads) }
+    ensures { result ≡ values_gate corners.entry.x.now corners.entry.y.now quads.now }
 {
-    positions_row(x, y)?;
-    corners_row(quads, x.len())?;
+    positions_row(corners)?;
+    corners_row(quads, corners.x.len())?;
     twice_row(quads, 4)
 }
 
 // Rows 1 to 6.
-#[tactic(auto, unfolding(crate::specs::Call::gate_of))]
-fn judge(x: &[f32], y: &[f32], quads: &[u32], params: FilterParams) -> Result<(), Refusal>
-    ensures { result ≡ gate_of (given x.entry y.entry quads.entry params) }
+#[tactic(auto, using(crate::proofs::Sound::lengths_open), unfolding(crate::specs::Call::gate_of))]
+fn judge(corners: Positions<'_>, quads: &[u32], params: FilterParams) -> Result<(), Refusal>
+    ensures { result ≡ gate_of (given corners.entry quads.entry params) }
 {
-    lengths_gate(x.len(), y.len(), quads.len())?;
+    lengths_gate(corners.x.len(), corners.y.len(), quads.len())?;
     params_gate(params)?;
-    values_gate(x, y, quads)
+    values_gate(corners, quads)
 }
 
 // All rows but the ninth.
 #[tactic(auto, unfolding(crate::specs::Call::entry_gate))]
 pub(crate) fn entry(
-    x: &[f32],
-    y: &[f32],
+    corners: Positions<'_>,
     quads: &[u32],
     params: FilterParams,
     words: usize,
 ) -> Result<(), Refusal>
-    ensures { result ≡ entry_gate (given x.entry y.entry quads.entry params) words }
+    ensures { result ≡ entry_gate (given corners.entry quads.entry params) words }
 {
-    judge(x, y, quads, params)?;
-    work_row(words, quad_words(quads.len() / 4, x.len()))
+    judge(corners, quads, params)?;
+    work_row(words, quad_words(quads.len() / 4, corners.x.len()))
 }

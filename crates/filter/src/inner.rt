@@ -8,23 +8,26 @@ ghost use Rattle.filter.specs.Marks.{quad_at, kept_to};
 ghost use Rattle.filter.specs.inner.Steps.{Sound, Judged};
 
 use crate::FilterParams;
-use crate::lengths::write_lengths;
-use crate::opposing::mark_skewed;
-use crate::size::mark_off_size;
-use crate::topology::mark_crowded;
+use crate::checked::Checked;
+use mesh::Positions;
 use quads::Quad;
 use quads::inner::store;
 
 // One word per quad at the front of the workspace: 0 kept, 1, 2 or 3 dropped by that rule. `filter_quads` and a frame show what is asked
-// by their rows.
-pub fn mark_quads(x: &[f32], y: &[f32], quads: &[u32], params: FilterParams, work: &mut [u32])
-    requires { Sound (given x y quads params) × (quad_words (length quads.now / 4) (length x.now) ≤ length work.old) }
-    ensures { Judged (given x.entry y.entry quads.entry params) work.old work.new }
+// by their rows. The marks are no enum: they are words of a lent list, and all that is asked of one is whether it is 0.
+pub fn mark_quads(corners: Positions<'_>, quads: &[u32], params: FilterParams, work: &mut [u32])
+    requires { Sound (given corners quads params) × (quad_words (length quads.now / 4) (length corners.x.now) ≤ length work.old) }
+    ensures { Judged (given corners.entry quads.entry params) work.old work.new }
 {
-    mark_crowded(quads, work, x.len());
-    write_lengths(x, y, quads, work);
-    mark_skewed(work, quads.len() / 4, params.ratio);
-    mark_off_size(quads, work, params);
+    let checked = Checked {
+        corners,
+        quads,
+        params,
+    };
+    checked.mark_crowded(work);
+    checked.write_lengths(work);
+    checked.mark_skewed(work);
+    checked.mark_off_size(work);
 }
 
 // How many of the first n marks keep their quad. `filter_quads` shows by row 8 that the workspace has so many words.
@@ -32,15 +35,7 @@ pub(crate) fn count_kept(work: &[u32], n: usize) -> usize
     requires { n ≤ length work.now }
     ensures { result ≡ equal (λ (q : ℕ). get_or work.now q 0) n 0 }
 {
-    let mut count = 0;
-    let mut q = 0;
-    while q < n {
-        if work[q] == 0 {
-            count += 1;
-        }
-        q += 1;
-    }
-    count
+    work[..n].iter().filter(|m| **m == 0).count()
 }
 
 fn quad_at(quads: &[u32], q: usize) -> Quad
@@ -56,19 +51,19 @@ fn quad_at(quads: &[u32], q: usize) -> Quad
 }
 
 // The quads whose mark is 0 at the front of a list of their own. `filter_quads` shows the room by row 9.
+// `keep_marked` has this loop over one list that it reads and writes: a loop for both would take the store as a closure, whose contract
+// would be what the loop keeps, which is no plainer.
 pub(crate) fn write_kept(quads: &[u32], work: &[u32], kept: &mut [u32])
-    requires { (length quads.now / 4 ≤ length work.now) × (4 * length (kept_to quads.now (λ (q : ℕ). get_or work.now q 0) (length quads.now / 4)) ≤ length kept.old) }
-    ensures { kept.new ≡ words_of (kept_to quads.now (λ (q : ℕ). get_or work.now q 0) (length quads.now / 4)) ++ drop (4 * length (kept_to quads.now (λ (q : ℕ). get_or work.now q 0) (length quads.now / 4))) kept.old }
+    requires marks { length quads.now / 4 ≤ length work.now }
+    requires room { 4 * length (kept_to quads.now (λ (q : ℕ). get_or work.now q 0) (length quads.now / 4)) ≤ length kept.old }
+    ensures { let left = kept_to quads.now (λ (q : ℕ). get_or work.now q 0) (length quads.now / 4) in kept.new ≡ words_of left ++ drop (4 * length left) kept.old }
 {
-    let n = quads.len() / 4;
     let mut at = 0;
-    let mut q = 0;
-    while q < n {
+    for q in 0..quads.len() / 4 {
         if work[q] == 0 {
             store(kept, at, quad_at(quads, q));
             at += 4;
         }
-        q += 1;
     }
 }
 
@@ -79,14 +74,12 @@ pub fn keep_marked(quads: &mut [u32], work: &[u32], n: usize) -> usize
     ensures { (result ≡ length (kept_to quads.old (λ (q : ℕ). get_or work.now q 0) n)) × (quads.new ≡ words_of (kept_to quads.old (λ (q : ℕ). get_or work.now q 0) n) ++ drop (4 * result) quads.old) }
 {
     let mut at = 0;
-    let mut q = 0;
-    while q < n {
+    for q in 0..n {
         if work[q] == 0 {
             let quad = quad_at(quads, q);
             store(quads, at, quad);
             at += 4;
         }
-        q += 1;
     }
     at / 4
 }

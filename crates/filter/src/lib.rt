@@ -5,19 +5,21 @@
 ghost use Rattle.filter.specs.Input.{given};
 ghost use Rattle.filter.specs.Call.{Allowed};
 
+use mesh::Positions;
 use refusal::Refusal;
-use words::inner::fill_zero;
 
+mod checked;
 mod gate;
 pub mod inner;
 mod layout;
 mod lengths;
 mod opposing;
 mod size;
+mod standing;
 mod topology;
 
 // The limits: of the ratio of opposing sides, and of a side's length over its group's median.
-#[derive(Clone, Copy)]
+#[derive(Clone, Copy, Debug, PartialEq)]
 pub struct FilterParams {
     pub ratio: f32,
     pub least: f32,
@@ -26,24 +28,23 @@ pub struct FilterParams {
 
 // Writes the quads that all three rules keep, in their order; answers how many.
 pub fn filter_quads(
-    x: &[f32],
-    y: &[f32],
+    corners: Positions<'_>,
     quads: &[u32],
     params: FilterParams,
     work: &mut [u32],
     kept: &mut [u32],
 ) -> Result<u32, Refusal>
-    ensures { Allowed (given x.entry y.entry quads.entry params)
+    ensures { Allowed (given corners.entry quads.entry params)
         work.old kept.old (record { answer = result; work = work.new; kept = kept.new }) }
 {
-    gate::entry(x, y, quads, params, work.len())?;
-    inner::mark_quads(x, y, quads, params, work);
+    gate::entry(corners, quads, params, work.len())?;
+    inner::mark_quads(corners, quads, params, work);
     let count = inner::count_kept(work, quads.len() / 4);
     if kept.len() / 4 < count {
-        fill_zero(work);
+        work.fill(0);
         return Err(Refusal::RecordsShort(count as u32));
     }
     inner::write_kept(quads, work, kept);
-    fill_zero(work);
+    work.fill(0);
     Ok(count as u32)
 }

@@ -33,13 +33,13 @@ pub overflow_cast-result : goal.overflow_cast-result
 overflow_cast-result c = omega (arith, few _ _ _ (open_rows _ _ _ c.entry.ensures c.in_ok-entry.was).0 c.count_kept-count.ensures)
 
 pub returns-then-kept-count : goal.returns-then-kept-count
-returns-then-kept-count c = short _ _ _ _ c.entry.ensures c.in_ok-entry.was _ c.mark_quads.ensures _ c.count_kept-count.ensures _ c.if-kept-count.true c.fill_zero.ensures
+returns-then-kept-count c = short _ _ _ _ c.entry.ensures c.in_ok-entry.was _ c.mark_quads.ensures _ c.count_kept-count.ensures _ c.if-kept-count.true (c.fill.ensures.after (λ y e. e))
 
 pub write_kept-requires : goal.write_kept-requires
-write_kept-requires c = (front _ _ _ (open_rows _ _ _ c.entry.ensures c.in_ok-entry.was).1 c.mark_quads.ensures, room _ _ _ _ _ c.count_kept-count.ensures c.if-kept-count.false)
+write_kept-requires c = record { marks = front _ _ _ (open_rows _ _ _ c.entry.ensures c.in_ok-entry.was).1 c.mark_quads.ensures; room = room _ _ _ _ _ c.count_kept-count.ensures c.if-kept-count.false }
 
 pub overflow_cast-result-2 : goal.overflow_cast-result-2
 overflow_cast-result-2 c = omega (arith, few _ _ _ (open_rows _ _ _ c.entry.ensures c.in_ok-entry.was).0 c.count_kept-count.ensures)
 
 pub returns : goal.returns
-returns c = done _ _ _ _ c.entry.ensures c.in_ok-entry.was _ c.mark_quads.ensures _ c.count_kept-count.ensures _ _ c.if-kept-count.false c.write_kept.ensures c.fill_zero-2.ensures
+returns c = done _ _ _ _ c.entry.ensures c.in_ok-entry.was _ c.mark_quads.ensures _ c.count_kept-count.ensures _ _ c.if-kept-count.false c.write_kept.ensures (c.fill-2.ensures.after (λ y e. e))

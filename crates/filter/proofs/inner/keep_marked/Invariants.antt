@@ -1,11 +1,8 @@
 -- `keep_marked`: the quads below q whose mark is 0 stand at the front, and the rest of the list, q's quad too, is as it was.
-use Prim.Native.Nat.{ℕ, ◌-◌, ◌≤◌}
+use Prim.Native.Nat.{ℕ}
 use lib.ListN.{get_or}
 use Rattle.filter.proofs.Kept.{Wrote}
 use Rattle.filter.proofs.inner.keep_marked.Given as goal
 
 abbrev pub invariant-loop-q : goal.invariant-loop-q
-invariant-loop-q l = (l.q ≤ l.n) × Wrote l.initial.quads (λ (k : ℕ). get_or l.work k 0) l.initial.quads l.quads l.at l.q
-
-abbrev pub decreases-loop-q : goal.decreases-loop-q
-decreases-loop-q l = l.n - l.q
+invariant-loop-q l = Wrote l.initial.quads (λ (k : ℕ). get_or l.work k 0) l.initial.quads l.quads l.at l.q

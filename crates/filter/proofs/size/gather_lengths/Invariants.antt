@@ -1,12 +1,9 @@
 -- `gather_lengths` reads records and lengths outside the region that it fills, so they are as they were.
-use Prim.Native.Nat.{◌*◌, ◌-◌, ◌≤◌}
+use Prim.Native.Nat.{◌*◌}
 use Rattle.words.specs.inner.Regions.{Filled}
 use Rattle.filter.specs.inner.Layout.{gathered_at}
 use Rattle.filter.proofs.Gathering.{length_to}
 use Rattle.filter.proofs.size.gather_lengths.Given as goal
 
 abbrev pub invariant-loop-e : goal.invariant-loop-e
-invariant-loop-e l = (l.e ≤ 4 * l.n) × Filled l.initial.work l.work (gathered_at l.n) (4 * l.n) l.e (length_to l.initial.work l.n)
-
-abbrev pub decreases-loop-e : goal.decreases-loop-e
-decreases-loop-e l = 4 * l.n - l.e
+invariant-loop-e l = Filled l.initial.work l.work (gathered_at l.n) (4 * l.n) l.e (length_to l.initial.work l.n)
