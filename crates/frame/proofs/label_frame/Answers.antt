@@ -28,7 +28,7 @@ work_gate-requires c = may_ask (read (goal.at.work_gate-requires c).Start) _ c.j
 
 pub returns-in_err-work_gate : goal.returns-in_err-work_gate
 returns-in_err-work_gate c =
-    let p = err_from_is_err_and c.from_residual-2.result c.from_residual-2.ensures.1 in
+    let p = err_from_is_err_and c.from_residual-in_err-work_gate.result c.from_residual-in_err-work_gate.ensures.1 in
     rw (p.1, p.2) (shut_work (read (goal.at.returns-in_err-work_gate c).Start) _ c.judge.ensures c.in_ok-judge.was _ _ c.work_gate.ensures _ _ _ c.in_err-work_gate.was)
 
 pub compute_frame-counts-requires : goal.compute_frame-counts-requires

@@ -16,14 +16,18 @@ overflow_mul-quads c = omega (arith, few_kept (read (goal.at.overflow_mul-quads 
 pub slice_bounds-quads-end : goal.slice_bounds-quads-end
 slice_bounds-quads-end c = let q = c.quads_of-n.ensures.0 in front_in _ _ _ q.count q.front
 
-pub slice_bounds-compute-end : goal.slice_bounds-compute-end
-slice_bounds-compute-end c = let q = c.quads_of-n.ensures.0 in front_counted _ _ _ q.count q.front
+pub slice_bounds-sheet-end : goal.slice_bounds-sheet-end
+slice_bounds-sheet-end c = let q = c.quads_of-n.ensures.0 in front_counted _ _ _ q.count q.front
+
+pub invariant_of-sheet : goal.invariant_of-sheet
+invariant_of-sheet c =
+    let q = c.quads_of-n.ensures in
+    record { given = (fates_ask (read (goal.at.invariant_of-sheet c).Start) _ _ q.0 _ c.requires _ _ c.span_of-span.ensures q.1).0 }
 
 pub compute-requires : goal.compute-requires
 compute-requires c =
     let q = c.quads_of-n.ensures in
-    let asks = fates_ask (read (goal.at.compute-requires c).Start) _ _ q.0 _ c.requires _ _ c.span_of-span.ensures q.1 in
-    record { given = asks.0; n_in_bounds = asks.1 }
+    (fates_ask (read (goal.at.compute-requires c).Start) _ _ q.0 _ c.requires _ _ c.span_of-span.ensures q.1).1
 
 pub count_components-requires : goal.count_components-requires
 count_components-requires c =
