@@ -1,4 +1,5 @@
 pub mod Side
+pub mod Search
 pub mod Sound
 pub mod Ranked
 pub mod Sorted

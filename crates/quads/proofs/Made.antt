@@ -15,14 +15,14 @@ use Rattle.std.specs.Int.{from_bool}
 use Rattle.quads.specs.Order.{order_of}
 use Rattle.std.specs.Option.{is_some}
 use Rattle.quads.specs.Merge.{Mesh, Input, triangle_count, paired_at, made_by, quads_to, merged_of}
-use Rattle.quads.specs.inner.Merging.{count_to}
+use Rattle.quads.specs.inner.Merging.{Passed, FirstPair, count_to}
 use Rattle.quads.specs.Call.{words_of}
 
 pub made_more : (i : Input) (t : ℕ) → quads_to i (t + 1) ≡ quads_to i t ++ made_by i (paired_at i.mesh t)
 unfolding quads_to
 made_more i t = rw (add-one t)
 
-pub count_more : (m : Mesh) (t : ℕ) → count_to m (t + 1) ≡ count_to m t + one (is_some (paired_at m t))
+count_more : (m : Mesh) (t : ℕ) → count_to m (t + 1) ≡ count_to m t + one (is_some (paired_at m t))
 unfolding count_to
 count_more m t = rw (add-one t)
 
@@ -37,8 +37,16 @@ one_from false = refl
 pub adds : (i : Input) (t : ℕ) (q : Quad) → paired_at i.mesh t ≡ Some q → quads_to i (t + 1) ≡ quads_to i t ++ (order_of i.xs i.ys q ∷ [])
 adds i t q e = made_more i t ∙ rw e
 
-pub adds_none : (i : Input) (t : ℕ) → paired_at i.mesh t ≡ None → quads_to i (t + 1) ≡ quads_to i t
-adds_none i t e = made_more i t ∙ rw (e, append-nil)
+-- triangles that make none add none
+passed_by : (i : Input) (t d : ℕ) → Passed i.mesh t (t + d) → quads_to i (t + d) ≡ quads_to i t
+unfolding quads_to
+passed_by i t zero h = ap (quads_to i) (add-zero t)
+passed_by i t (suc d) h = rw (add-suc t d, h (t + d) (omega arith) (omega arith), append-nil) (passed_by i t d (λ k a b. h k a (omega arith)))
+
+passed : (i : Input) (t r : ℕ) → t ≤ r → Passed i.mesh t r → quads_to i r ≡ quads_to i t
+passed i t r h f =
+    let e : t + (r - t) ≡ r = omega arith in
+    rw e at (passed_by i t (r - t) (λ k a b. f k a (omega arith)))
 
 -- ---- how many they are
 
@@ -55,6 +63,21 @@ count_is i (suc t) = rw (length-append (quads_to i t) (made_by i (paired_at i.me
 pub merged_count : (i : Input) → count_to i.mesh (triangle_count i.mesh) ≡ length (merged_of i)
 unfolding merged_of
 merged_count i = count_is i (triangle_count i.mesh)
+
+count_passed_by : (m : Mesh) (t d : ℕ) → Passed m t (t + d) → count_to m (t + d) ≡ count_to m t
+unfolding count_to one
+count_passed_by m t zero h = ap (count_to m) (add-zero t)
+count_passed_by m t (suc d) h = rw (add-suc t d, h (t + d) (omega arith) (omega arith)) (add-zero _ ∙ count_passed_by m t d (λ k a b. h k a (omega arith)))
+
+pub count_passed : (m : Mesh) (t r : ℕ) → t ≤ r → Passed m t r → count_to m r ≡ count_to m t
+count_passed m t r h f =
+    let e : t + (r - t) ≡ r = omega arith in
+    rw e at (count_passed_by m t (r - t) (λ k a b. f k a (omega arith)))
+
+-- the first pair from t on
+pub count_next : (m : Mesh) (t r : ℕ) (q : Quad) → FirstPair m t r q → count_to m (r + 1) ≡ count_to m t + 1
+unfolding one
+count_next m t r q f = count_more m r ∙ rw (f.hit, count_passed m t r f.past f.clear)
 
 pub count_le : (m : Mesh) (t : ℕ) → count_to m t ≤ t
 unfolding count_to one
@@ -140,20 +163,27 @@ pub record Front (i : Input) (before : List ℕ) (t made : ℕ) (now : List ℕ)
   pub held : Held (quads_to i t) before now
 
 module _ (i : Input) (before now : List ℕ) {t made : ℕ} (front : Front i before t made now) where
-  pub front_kept : paired_at i.mesh t ≡ None → Front i before (t + 1) made now
-  front_kept e = record { count = front.count ∙ ap length (sym (adds_none i t e)); held = held_by _ _ before now (adds_none i t e) front.held }
+  -- the quads of r's triangles, where those from t on make none
+  front_passed : (r : ℕ) → t ≤ r → Passed i.mesh t r → Front i before r made now
+  front_passed r h clear =
+      let e = passed i t r h clear in
+      record { count = front.count ∙ ap length (sym e); held = held_by _ _ before now e front.held }
 
-  pub front_more : {q r : Quad} {after : List ℕ} → paired_at i.mesh t ≡ Some q → 4 * length (merged_of i) ≤ length before → t < triangle_count i.mesh → r ≡ order_of i.xs i.ys q
-      → after ≡ take (4 * made) now ++ ((r.a ∷ r.b ∷ r.c ∷ r.d ∷ []) ++ drop (4 * made + 4) now) → Front i before (t + 1) (made + 1) after
-  front_more {q} {r} {after} e room h ordered stored =
-      let adds_r : quads_to i (t + 1) ≡ quads_to i t ++ (r ∷ []) = rw ordered (adds i t q e) in
-      let here : 4 * made ≡ 4 * length (quads_to i t) = ap (λ (n : ℕ). 4 * n) front.count in
-      let more : 4 * length (quads_to i t) ≤ length before = omega (arith, room_for i t q h e, room) in
+  pub front_more : {r : ℕ} {q s : Quad} {after : List ℕ} → FirstPair i.mesh t r q → 4 * length (merged_of i) ≤ length before → s ≡ order_of i.xs i.ys q
+      → after ≡ take (4 * made) now ++ ((s.a ∷ s.b ∷ s.c ∷ s.d ∷ []) ++ drop (4 * made + 4) now) → Front i before (r + 1) (made + 1) after
+  front_more {r} {q} {s} {after} first room ordered stored =
+      let reached = front_passed r first.past first.clear in
+      let adds_s : quads_to i (r + 1) ≡ quads_to i r ++ (s ∷ []) = rw ordered (adds i r q first.hit) in
+      let here : 4 * made ≡ 4 * length (quads_to i r) = ap (λ (n : ℕ). 4 * n) reached.count in
+      let more : 4 * length (quads_to i r) ≤ length before = omega (arith, room_for i r q first.reach first.hit, room) in
       record {
-        count = rw (adds_r, length-append (quads_to i t) (r ∷ []), ← front.count);
-        held = held_by _ _ before after adds_r (held_more (quads_to i t) r before now after (4 * made) here more front.held stored);
+        count = rw (adds_s, length-append (quads_to i r) (s ∷ []), ← reached.count);
+        held = held_by _ _ before after adds_s (held_more (quads_to i r) s before now after (4 * made) here more reached.held stored);
       }
 
-  pub front_all : t ≡ triangle_count i.mesh → (made ≡ length (merged_of i)) × Held (merged_of i) before now
+  pub front_all : t ≤ triangle_count i.mesh → Passed i.mesh t (triangle_count i.mesh) → (made ≡ length (merged_of i)) × Held (merged_of i) before now
   unfolding merged_of
-  front_all e = rw (← e) (front.count, front.held)
+  front_all h clear = let all = front_passed (triangle_count i.mesh) h clear in (all.count, all.held)
+
+  pub front_room : {r : ℕ} {q : Quad} → FirstPair i.mesh t r q → 4 * length (merged_of i) ≤ length before → 4 * made + 3 < length before
+  front_room {r} {q} first room = omega (arith, (front_passed r first.past first.clear).count, room_for i r q first.reach first.hit, room)

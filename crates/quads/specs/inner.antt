@@ -1,2 +1,3 @@
 pub mod Ordering
 pub mod Merging
+pub mod Search

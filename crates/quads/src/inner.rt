@@ -4,19 +4,21 @@ ghost use Rattle.quads.specs.inner.Merging.{MeshSound, Sound, count_to, Writes};
 ghost use Rattle.quads.specs.Merge.{merged_of, triangle_count, given, mesh_of};
 
 use crate::order::order_corners;
-use crate::pair::pair_at;
+use crate::pair::next_pair;
 use crate::{Mesh, Quad};
 use mesh::Positions;
 
 // How many quads the mesh makes. `merge_triangle_pairs` shows what is asked by its rows.
-#[tactic(auto, using(crate::proofs::Made::count_le, crate::proofs::Made::count_more, crate::proofs::Made::one_from), unfolding(crate::specs::inner::Merging::count_to))]
+#[tactic(auto, using(crate::proofs::Made::count_le, crate::proofs::Made::count_next, crate::proofs::Made::count_passed), unfolding(crate::specs::inner::Merging::count_to))]
 pub(crate) fn count_quads(mesh: Mesh<'_>) -> usize
     requires { MeshSound (mesh_of mesh) }
     ensures { result ≡ count_to (mesh_of mesh.entry) (triangle_count (mesh_of mesh.entry)) }
 {
     let mut made = 0;
-    for t in 0..mesh.triangles.len() / 3 {
-        made += usize::from(pair_at(mesh, t).is_some());
+    let mut from = 0;
+    while let Some((t, _)) = next_pair(mesh, from) {
+        made += 1;
+        from = t + 1;
     }
     made
 }
@@ -35,11 +37,11 @@ pub fn write_quads(corners: Positions<'_>, mesh: Mesh<'_>, quads: &mut [u32]) ->
     ensures { Writes (given corners.entry mesh.entry) quads.old quads.new result }
 {
     let mut made = 0;
-    for t in 0..mesh.triangles.len() / 3 {
-        if let Some(q) = pair_at(mesh, t) {
-            store(quads, 4 * made, order_corners(corners, q));
-            made += 1;
-        }
+    let mut from = 0;
+    while let Some((t, quad)) = next_pair(mesh, from) {
+        store(quads, 4 * made, order_corners(corners, quad));
+        made += 1;
+        from = t + 1;
     }
     made
 }

@@ -1,7 +1,7 @@
-// The pairing of a triangle with the one across its only diagonal.
+// The pairing of a triangle with the one across its only diagonal, and the search for the next triangle that has one.
 ghost use Rattle.std.specs.Prelude.{◌≡◌, ◌∷◌, [], ◌+◌, ◌*◌, ◌<◌, length};
 ghost use Rattle.quads.specs.Union.{is_in, union_of, four_from};
-ghost use Rattle.quads.specs.inner.Merging.{MeshSound};
+ghost use Rattle.quads.specs.inner.Merging.{MeshSound, NextPair};
 ghost use Rattle.quads.specs.Merge.{paired_at, mesh_of};
 
 use crate::diagonal::only_diagonal;
@@ -53,4 +53,20 @@ pub(crate) fn pair_at(mesh: Mesh<'_>, t: usize) -> Option<Quad>
         return union_of(mesh.triangles, t, other);
     }
     None
+}
+
+// The first triangle from `from` on that makes a quad, with the quad's corners.
+pub(crate) fn next_pair(mesh: Mesh<'_>, from: usize) -> Option<(usize, Quad)>
+    requires { MeshSound (mesh_of mesh) }
+    ensures { NextPair (mesh_of mesh.entry) from result }
+{
+    let mut found = None;
+    // The label and the early exit are the form that document 01 names for this search.
+    'pairs: for t in from..mesh.triangles.len() / 3 {
+        if let Some(quad) = pair_at(mesh, t) {
+            found = Some((t, quad));
+            break 'pairs;
+        }
+    }
+    found
 }
