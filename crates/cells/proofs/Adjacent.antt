@@ -56,7 +56,7 @@ module _ (n : ℕ) (xs : List ℕ) (h : ℕ) where
   next_key : key_at n xs (h + 1) ≡ get_or xs (2 * n + 2 * h + 2) 0
   next_key = ap (λ (k : ℕ). get_or xs k 0) (omega arith)
 
-  pub next_number : number_at n xs (h + 1) ≡ get_or xs (2 * n + 2 * h + 3) 0
+  next_number : number_at n xs (h + 1) ≡ get_or xs (2 * n + 2 * h + 3) 0
   next_number = ap (λ (k : ℕ). get_or xs k 0) (omega arith)
 
   module _ (c : Classes (Adjacent n xs h) n (groups_of n xs)) where
@@ -100,9 +100,6 @@ module _ (n : ℕ) (xs : List ℕ) (h : ℕ) where
         met x y r (inr f) = inr (r.left ∙ ap (λ (i : ℕ). number_at n xs i / 4) f, r.right ∙ ap (λ (i : ℕ). number_at n xs (i + 1) / 4) f ∙ sym right)
 
 -- ---- all of them
-
-pub united_none : {n : ℕ} {xs : List ℕ} → Classes (Adjacent n xs 0) n (groups_of n xs) → United n 0 xs xs
-united_none {n} {xs} c = record { kept = kept_refl xs n n; classes = c }
 
 pub united_then : {n h k : ℕ} {xs ys zs : List ℕ} → United n h xs ys → United n k ys zs → United n k xs zs
 united_then u w = record { kept = kept_trans u.kept w.kept; classes = still_classes (back_again u.kept) w.classes }

@@ -2,22 +2,16 @@
 use mathlib.Core.Path.{◌≡◌, refl, sym, ap, ◌∙◌}
 use mathlib.Core.Bool.{Bool, true, false, cond}
 use mathlib.Core.List.{List}
-use Prim.Native.Nat.{ℕ, ◌+◌, ◌*◌, ◌/◌, ◌%◌, ◌≤◌, ◌<◌}
-use native.Mathlib.Nat.{mul-le-mul_right, mod-lt}
+use Prim.Native.Nat.{ℕ, ◌+◌, ◌*◌, ◌/◌, ◌%◌, ◌<◌}
+use native.Mathlib.Nat.{mod-lt}
 use native.Mathlib.Omega.{arith}
-use lib.ListN.{length}
-use Rattle.words.specs.inner.Order.{Room, Ordered, key_of}
+use Rattle.words.specs.inner.Order.{Ordered, key_of}
 use Rattle.words.proofs.Cuts.{ascends}
 use Rattle.cells.specs.Cells.{cell}
-use Rattle.cells.specs.inner.Table.{unmarked, table_at, spare_at, groups_end, Sound}
+use Rattle.cells.specs.inner.Table.{unmarked, table_at, spare_at, Sound}
 use Rattle.cells.specs.inner.Sides.{key_at, number_at, side_key, table_key, Stands, Tabled, Tabulated}
 use Rattle.cells.proofs.Places.{cell_before, place_below, some_place}
 use Rattle.cells.proofs.Keys.{small_key}
-
-pub order_room : {size : ℕ} {cells : List ℕ} {n : ℕ} → Sound size cells n → (ys : List ℕ) → groups_end size n ≤ length ys → Room ys (table_at n) (spare_at size n) (size * n) × (size * n < 4294967296)
-order_room {size} {cells} {n} S ys room =
-    let few : size * n ≤ 4 * n = mul-le-mul_right n S.most in
-    (record { first = omega arith; second = omega arith; apart = λ i j hi hj e. omega arith }, omega (arith, S.few))
 
 pub corner_small : {size : ℕ} {cells : List ℕ} {n : ℕ} → Sound size cells n → (q i : ℕ) → q < n → cell size cells q i < 4096
 corner_small {size} {cells} {n} S q i h =

@@ -12,7 +12,7 @@ use lib.Seq.{get_or-set_same, get_or-set_other}
 use Rattle.words.proofs.Regions.{set_cases}
 use Rattle.cells.specs.Groups.{Linked}
 use Rattle.cells.specs.Groups.Linked.{same, on, back}
-use Rattle.cells.specs.inner.Forest.{Low, Ptr, PtrOr, Respects, Refines, Found, Joined, Alone, Flat}
+use Rattle.cells.specs.inner.Forest.{Low, Ptr, PtrOr, Respects, Refines, Found, Joined, Flat}
 use Rattle.cells.proofs.Links.{joined, turned, fold, kept}
 
 pub refines_refl : (p : List ℕ) → Low p → Refines p p
@@ -76,7 +76,7 @@ pub record Climbed (p q : List ℕ) (x at up : ℕ) : Type 0 where
   pub up_le : up ≤ at
 
 -- where the loop goes on: the next number is at most up, and up is in range
-pub climbed_low : {p q : List ℕ} {x at up : ℕ} → Climbed p q x at up → x < length p → (get_or q up 0 ≤ up) × (up < length q) × (at < length q)
+climbed_low : {p q : List ℕ} {x at up : ℕ} → Climbed p q x at up → x < length p → (get_or q up 0 ≤ up) × (up < length q) × (at < length q)
 climbed_low {p} {q} {x} {at} {up} c h =
     let aq : at < length q = omega (arith, c.refines.len) in
     let uq : up < length q = omega arith in
@@ -138,12 +138,6 @@ pub join_up : {p q s : List ℕ} {a b ra rb : ℕ} → Found p q a ra → Found 
 join_up fa fb h le =
     swapped (hang (refines_trans fa.refines fb.refines) (lift fa.refines fb.up) fa.up fb.root (omega (arith, fb.le)) (omega arith))
 
-pub alone_more : {n i : ℕ} {p : List ℕ} → Alone n i p → i < n → Alone n (i + 1) (set p i i)
-alone_more {n} {i} {p} a h = record {
-  len = length-set p i i ∙ a.len;
-  own = λ y k. set_cases (λ (z : ℕ). z ≡ y) p i i y (omega (arith, a.len)) (λ e. sym e) (λ m. a.own y (omega (arith, m)));
-}
-
 -- one number more points at its root
 pub flat_more : {p q : List ℕ} {j : ℕ} → Flat p j q → j < length q → Flat p (j + 1) (set q j (get_or q (get_or q j 0) 0))
 flat_more {p} {q} {j} f h = record {
@@ -168,7 +162,3 @@ flat_more {p} {q} {j} f h = record {
     older y l =
         let low : get_or q y 0 ≤ y = f.refines.low y (omega arith) in
         rw (get_or-set_other q j y v 0 (omega arith), get_or-set_other q j (get_or q y 0) v 0 (omega arith)) (f.flat y l)
-
--- the number that a turn of `flatten` reads is in range
-pub flat_low : {p q : List ℕ} {j : ℕ} → Flat p j q → j < length q → get_or q j 0 < length q
-flat_low {p} {q} {j} f h = omega (arith, f.refines.low j h)

@@ -2,13 +2,13 @@
 use mathlib.Core.Path.{◌≡◌, ap}
 use mathlib.Core.List.{List}
 use Prim.Native.Nat.{ℕ, zero, suc, ◌+◌, ◌*◌, ◌/◌, ◌%◌, ◌≤◌, ◌<◌}
-use native.Mathlib.Nat.{mul-add, mul-one, mul-le-mul_left, lt_of_mul-lt-mul_left, zero-mul, div-add-mod, mod-lt, mod-eq_of_lt, mod_self, mod-mod}
+use native.Mathlib.Nat.{mul-add, mul-one, mul-le-mul_left, lt_of_mul-lt-mul_left, zero-mul, div-add-mod, mod-lt, mod-mod}
 use native.Mathlib.Decide.{dec_lt}
 use native.Mathlib.Omega.{arith}
 use Rattle.cells.specs.Cells.{cell}
 
 -- a cell more is size sides more
-pub cell_after : (size q : ℕ) → size * (q + 1) ≡ size * q + size
+cell_after : (size q : ℕ) → size * (q + 1) ≡ size * q + size
 cell_after size q = omega (arith, mul-add size q 1, mul-one size)
 
 -- the sides of a cell are all before those of the next
@@ -38,12 +38,6 @@ some_place size n k h = (lt_of_mul-lt-mul_left size (omega (arith, div-add-mod k
     positive (suc size) n k h = omega arith
 
 -- ---- the side after i, counted round
-
-pub round_at_last : (size i : ℕ) → i + 1 ≡ size → (i + 1) % size ≡ 0
-round_at_last size i e = rw e (mod_self size)
-
-pub round_before_last : (size i : ℕ) → i < size → (i + 1 ≡ size → ⊥) → (i + 1) % size ≡ i + 1
-round_before_last size i h n = mod-eq_of_lt (omega (arith, n))
 
 -- a cell's corners are counted round, so the next is the same before the count is brought below the size and after
 pub next_corner : (size : ℕ) (cells : List ℕ) (q i : ℕ) → cell size cells q ((i + 1) % size) ≡ cell size cells q (i + 1)

@@ -8,14 +8,10 @@ use native.Mathlib.Omega.{arith}
 use lib.Dec.{eqb}
 use lib.ListN.{length}
 use Rattle.words.specs.inner.Regions.{two}
-use Rattle.words.proofs.Regions.{kept_refl}
 use Rattle.words.proofs.Moving.{two_cases, two_past, two_kept}
 use Rattle.cells.specs.inner.Table.{table_at, groups_end}
 use Rattle.cells.specs.inner.Sides.{side_key, table_key, Stands, Tabled}
 use Rattle.cells.proofs.Places.{cell_before, own_place}
-
-pub tabled_none : (size : ℕ) (cells : List ℕ) (n : ℕ) (xs : List ℕ) (t : ℕ) → t ≡ 0 → Tabled size cells n xs xs t
-tabled_none size cells n xs t e = record { kept = kept_refl xs (table_at n) (2 * (size * n)); stands = λ q i hi hq l. absurd (omega arith) }
 
 -- the marks are before the table
 same_mark : {size : ℕ} {cells : List ℕ} {n t : ℕ} {xs ys : List ℕ} → Tabled size cells n xs ys t → (q i : ℕ) → q < n → table_key size cells ys q i ≡ table_key size cells xs q i

@@ -2,11 +2,8 @@
 use mathlib.Core.Path.{◌≡◌}
 use Prim.Native.Nat.{◌-◌}
 use native.Mathlib.Omega.{arith}
-use Rattle.cells.proofs.Adjacent.{still_ready, still_classes, united_none, united_then}
+use Rattle.cells.proofs.Adjacent.{still_ready, still_classes, united_then}
 use Rattle.cells.proofs.sides.link.Goals as goal
-
-pub loop-h-init : goal.loop-h-init
-loop-h-init c = united_none c.requires.classes
 
 pub link_at-requires : goal.link_at-requires
 link_at-requires c =
