@@ -1,17 +1,18 @@
--- The code's tests of a range are the ranges of the definitions: finite, above zero, equal to zero. Assumes nothing.
-use mathlib.Core.Path.{◌≡◌, refl}
-use mathlib.Core.Bool.{Bool, true, false, ◌&&◌}
-use Prim.Native.Nat.{ℕ, zero, suc, ◌*◌, ◌<◌}
+-- The code's tests of a range are the ranges of the definitions: finite, above zero, equal to zero, within a magnitude. Assumes nothing.
+use mathlib.Core.Path.{◌≡◌, refl, sym, ◌∙◌}
+use mathlib.Core.Bool.{Bool, true, false, not, ◌&&◌, ◌||◌, and-true}
+use Prim.Native.Nat.{ℕ, zero, suc, ◌+◌, ◌*◌, ◌<◌}
 use native.Mathlib.Nat.{mul-pos, zero-lt-suc}
 use native.Mathlib.Omega.{arith}
-use borrow.Author.Tests.{lt-ltb, le-ltb, ne_eqb}
-use lib.Dec.{eqb}
+use borrow.Author.Tests.{lt-ltb, le-ltb, eqb-true, eqb-false, eq-eqb, ne_eqb}
+use lib.Dec.{T, ltb, eqb}
 use lib.IntN.{ℤ}
-use lib.Ieee.{Float, nan, inf, fin, binary32, of_bits, lt, eq, up, down}
+use lib.Ieee.{Float, nan, inf, fin, binary32, of_bits, le, lt, eq, neg, up, down}
 use lib.Ieee.Fits.{up_pos}
 use lib.Ieee.Positive.{positive}
 use lib.Ieee.Scale.{finite}
 use Rattle.std.specs.Float.{float_is_finite}
+use Rattle.measure.specs.Float.{sign_of, within}
 
 pub finite_is : (x : Float) → float_is_finite x ≡ finite x
 unfolding float_is_finite
@@ -43,3 +44,28 @@ pub eq_none : (s : Bool) (e : ℤ) → eq (fin s zero e) (of_bits binary32 0) �
 unfolding eq of_bits
 eq_none true e = let z : 0 * up e * 1 ≡ 0 = omega arith in let y : 0 * down e ≡ 0 = omega arith in rw (z, y)
 eq_none false e = let z : 0 * up e * 1 ≡ 0 = omega arith in let y : 0 * down e ≡ 0 = omega arith in rw (z, y)
+
+-- ---- within a magnitude: x ≤ most and -most ≤ x
+
+some : (a b : ℕ) → (ltb 0 (a + b) || (eqb a b && eqb a 0)) ≡ true
+some zero zero = refl
+some (suc a) b = rw (lt-ltb 0 (suc a + b) (omega arith))
+some zero (suc b) = rw (lt-ltb 0 (zero + suc b) (omega arith))
+
+eqb_sym : (a b : ℕ) → eqb a b ≡ eqb b a
+eqb_sym a b = go (eqb a b) refl
+  where
+    go : (t : Bool) → eqb a b ≡ t → eqb a b ≡ eqb b a
+    go true e = e ∙ sym (eq-eqb b a (sym (eqb-true a b e)))
+    go false e = e ∙ sym (ne_eqb b a (λ q. eqb-false a b e (sym q)))
+
+pub within_by : (x top : Float) → T (finite top && not (sign_of top)) → (le x top && le (neg top) x) ≡ within top x
+unfolding within le lt eq neg
+within_by x nan h = absurd h
+within_by x (inf s) h = absurd h
+within_by x (fin true n d) h = absurd h
+within_by nan (fin false n d) h = refl
+within_by (inf true) (fin false n d) h = refl
+within_by (inf false) (fin false n d) h = refl
+within_by (fin false m e) (fin false n d) h = rw (some (n * up d * down e) (m * up e * down d), and-true)
+within_by (fin true m e) (fin false n d) h = rw (some (m * up e * down d) (n * up d * down e), eqb_sym (n * up d * down e) (m * up e * down d))

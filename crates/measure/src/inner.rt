@@ -27,7 +27,6 @@ pub fn is_finite(x: f32) -> bool
 }
 
 // x may be a corner's x or y.
-#[tactic(auto, using(crate::proofs::Literals::literals))]
 pub fn is_position(x: f32) -> bool
     ensures { result ≡ is_position x }
 {

@@ -3,7 +3,7 @@ ghost use Rattle.std.specs.Prelude.{◌+◌, ◌*◌, ◌^◌, ◌≤◌, ◌<�
 ghost use Rattle.measure.specs.inner.RootSteps.{IntegerRoot, NearestRoot};
 
 // Newton's iteration, which goes on until the guess is the root: nothing is counted. From `start` two turns are usual. std's `isqrt` halves a
-// range 32 times, which was tried and takes four times as long.
+// range 32 times, which takes four times as long, in a trial of both in Rust.
 fn isqrt(n: u64) -> u64
     requires { (2 ^ 46 ≤ n) × (n < 2 ^ 48) }
     ensures { IntegerRoot n result }
