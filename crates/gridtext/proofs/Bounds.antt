@@ -4,6 +4,8 @@ use mathlib.Core.List.{List, [], ◌∷◌, ◌++◌}
 use Prim.Native.Nat.{ℕ, zero, suc, ◌+◌, ◌*◌, ◌≤◌, ◌<◌}
 use native.Mathlib.Omega.{arith}
 use lib.ListN.{length, get_or, length-append}
+use mir.Syntax.{w32}
+use mir.Val.{Fits}
 use Rattle.cells.specs.Listed.{Entry}
 use Rattle.cells.specs.Sums.{total}
 use Rattle.walk.specs.Call.{all_entries}
@@ -90,5 +92,5 @@ module _ (c e : List ℕ) (cw : Words c) (ew : Words e) where
       let s = ap (total (count_of c)) held.count_is in
       omega (arith, t, a, s, components_most count h (readable held), one_most count h, length-append count_word (last_fields (decimal_of count ∷ [])), length-append (count_word ++ last_fields (decimal_of count ∷ [])) (joined (component_piece c e) count))
 
-  pub answer_room : (count : ℕ) (out : List ℕ) → IsWord count → (p : Printable c e count (length out)) → Room out 0 (components_text p.answer)
-  answer_room count out h p = omega (arith, p.fits, answer_most count h p.holds)
+pub answer_room : (c e : List ℕ) (count : ℕ) (out : List ℕ) → ((k : ℕ) → Fits w32 (get_or c k 0)) → ((k : ℕ) → Fits w32 (get_or e k 0)) → Fits w32 count → (p : Printable c e count (length out)) → Room out 0 (components_text p.answer)
+answer_room c e count out cw ew h p = omega (arith, p.fits, answer_most c e (λ k. omega (arith, cw k)) (λ k. omega (arith, ew k)) count (omega (arith, h)) p.holds)

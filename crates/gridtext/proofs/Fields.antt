@@ -3,6 +3,7 @@
 use mathlib.Core.Bool.{Bool, true, false}
 use mathlib.Core.Path.{◌≡◌, refl, sym, ap, ◌∙◌, subst}
 use mathlib.Core.List.{List, ◌∷◌, ◌++◌, tail}
+use Rattle.std.specs.Prelude.{Some}
 use Prim.Native.Nat.{ℕ, suc, ◌+◌, ◌-◌, ◌≤◌}
 use native.Mathlib.Omega.{arith}
 use lib.ListN.{length, get_or, drop, length-append, length-drop}
@@ -13,7 +14,6 @@ use Rattle.digits.specs.Digits.{hex_of, decimal_of}
 use Rattle.digits.specs.Taken.{end_byte, Takes, Stands}
 use Rattle.digits.proofs.Forms.{Marked, one_hex, one_decimal, hex_first, decimal_first, no_digit}
 use Rattle.gridtext.specs.declared.inner.row.Few.{Few}
-use Rattle.gridtext.specs.declared.inner.row.Found.{Found}
 use Rattle.gridtext.specs.declared.inner.row.Kind.{Kind}
 use Rattle.gridtext.specs.Lines.{Field, field_of, IsWord}
 use Rattle.gridtext.specs.inner.Rows.{form_of, Allowed, spread_words, words_of, list_of, found_of, PairAt, FieldStands, FieldAt}
@@ -101,11 +101,11 @@ module _ {text : List ℕ} {at e : ℕ} where
   unfolding form_of field_of words_of twin_word
   twin_field n = taken_field Kind.Twin decimal_of Few.One (λ v. refl) (λ v. refl) (λ rest a q. minus_not n rest q)
 
-  pub no_spread : PairAt text at 45 e true → FieldAt Kind.Spread text at e (Found.Words (Few.Two 0 0) (at + 2))
+  pub no_spread : PairAt text at 45 e true → FieldAt Kind.Spread text at e (Some (Few.Two 0 0, at + 2))
   unfolding words_of spread_words
   no_spread p = FieldAt.words (minus_field Kind.Spread Allowed.spread p) refl
 
-  pub no_twin_lem : PairAt text at 45 e true → FieldAt Kind.Twin text at e (Found.Words (Few.One no_twin) (at + 2))
+  pub no_twin_lem : PairAt text at 45 e true → FieldAt Kind.Twin text at e (Some (Few.One no_twin, at + 2))
   unfolding words_of twin_word
   no_twin_lem p = FieldAt.words (minus_field Kind.Twin Allowed.twin p) refl
 

@@ -1,13 +1,14 @@
 -- Pieces printed one after the other: the text of the first n is that of the first i and more, so each piece has room where the whole has.
 -- The lines of entries and of components that are read from words are such pieces. Assumes nothing.
 use mathlib.Core.Path.{◌≡◌, refl, sym, ap, ◌∙◌}
-use mathlib.Core.List.{List, [], ◌∷◌, ◌++◌, append_assoc, append-nil}
+use mathlib.Core.List.{List, [], ◌∷◌, ◌++◌, append_assoc, append-nil, map}
 use Prim.Native.Nat.{ℕ, zero, suc, ◌+◌, ◌-◌, ◌≤◌, ◌<◌}
 use native.Mathlib.Numerals.{add-one}
 use native.Mathlib.Omega.{arith}
-use lib.ListN.{length, length-append}
-use Rattle.cells.specs.Listed.{Entry}
+use lib.ListN.{length, get_or, length-append}
 use Rattle.walk.specs.Read.{entry_at, entries_from, component_at, components_from}
+use Rattle.digits.specs.Digits.{decimal_of}
+use Rattle.gridtext.specs.Lines.{spaced}
 use Rattle.gridtext.specs.Answer.{entry_line, entry_lines, component_lines}
 use Rattle.gridtext.specs.inner.Printed.{Printed, Room}
 use Rattle.gridtext.proofs.Printing.{printed_then}
@@ -41,64 +42,57 @@ joined_room {i = i} f n p h r =
     let g = rw e at (joined_grows f (suc i) (n - suc i)) in
     omega (arith, p.len, p.ends, length-append (joined f i) (f i))
 
+-- the first of them apart
+pub joined_first : (f : ℕ → List ℕ) (n : ℕ) → joined f (suc n) ≡ f 0 ++ joined (λ (i : ℕ). f (suc i)) n
+unfolding joined
+joined_first f zero = rw append-nil
+joined_first f (suc n) = rw (joined_first f n, append_assoc)
+
+joined_same : (f g : ℕ → List ℕ) → ((i : ℕ) → f i ≡ g i) → (n : ℕ) → joined f n ≡ joined g n
+unfolding joined
+joined_same f g e zero = refl
+joined_same f g e (suc n) = rw (joined_same f g e n, e n)
+
+-- ---- the last fields of a line
+
+abbrev pub field_piece : (fields : List ℕ) → ℕ → List ℕ
+field_piece fields i = 32 ∷ decimal_of (get_or fields i 0)
+
+pub fields_joined : (fields : List ℕ) → joined (field_piece fields) (length fields) ≡ spaced (map decimal_of fields)
+unfolding joined spaced
+fields_joined [] = refl
+fields_joined (a ∷ l) = joined_first (field_piece (a ∷ l)) (length l) ∙ ap (λ (t : List ℕ). (32 ∷ decimal_of a) ++ t) (fields_joined l)
+
 -- ---- entries
 
 abbrev pub entry_piece : (entries : List ℕ) (before : ℕ) → ℕ → List ℕ
 entry_piece entries before i = entry_line (entry_at entries (before + i))
 
-entries_last : (w : List ℕ) (b n : ℕ) → entries_from w b (suc n) ≡ entries_from w b n ++ (entry_at w (b + n) ∷ [])
-unfolding entries_from
-entries_last w b zero = let e : b ≡ b + 0 = omega arith in ap (λ (k : ℕ). entry_at w k ∷ []) e
-entries_last w b (suc n) =
-    let e : b + 1 + n ≡ b + suc n = omega arith in
-    ap (λ (l : List Entry). entry_at w b ∷ l) (entries_last w (b + 1) n ∙ ap (λ (k : ℕ). entries_from w (b + 1) n ++ (entry_at w k ∷ [])) e)
-
-entry_lines_append : (es fs : List Entry) → entry_lines (es ++ fs) ≡ entry_lines es ++ entry_lines fs
-unfolding entry_lines
-entry_lines_append [] fs = refl
-entry_lines_append (e ∷ es) fs = ap (λ (l : List ℕ). entry_line e ++ l) (entry_lines_append es fs) ∙ sym (append_assoc (entry_line e) (entry_lines es) (entry_lines fs))
-
 pub entries_joined : (w : List ℕ) (b n : ℕ) → joined (entry_piece w b) n ≡ entry_lines (entries_from w b n)
 unfolding joined entry_lines entries_from
 entries_joined w b zero = refl
 entries_joined w b (suc n) =
-    ap (λ (l : List ℕ). l ++ entry_piece w b n) (entries_joined w b n)
-    ∙ sym
-    (ap entry_lines (entries_last w b n) ∙ entry_lines_append (entries_from w b n) (entry_at w (b + n) ∷ [])
-    ∙ ap (λ (l : List ℕ). entry_lines (entries_from w b n) ++ l) (append-nil (entry_piece w b n)))
+    let z : b + 0 ≡ b = omega arith in
+    joined_first (entry_piece w b) n
+    ∙ rw z
+    (ap (λ (l : List ℕ). entry_line (entry_at w b) ++ l)
+    (joined_same _ (entry_piece w (b + 1)) (λ i. let e : b + suc i ≡ b + 1 + i = omega arith in rw e) n ∙ entries_joined w (b + 1) n))
 
 -- ---- components
 
 abbrev pub component_piece : (components entries : List ℕ) → ℕ → List ℕ
 component_piece components entries j = component_lines j (component_at components entries j ∷ [])
 
-components_last : (c e : List ℕ) (j n : ℕ) → components_from c e j (suc n) ≡ components_from c e j n ++ (component_at c e (j + n) ∷ [])
-unfolding components_from
-components_last c e j zero = let s : j ≡ j + 0 = omega arith in ap (λ (k : ℕ). component_at c e k ∷ []) s
-components_last c e j (suc n) =
-    let s : j + 1 + n ≡ j + suc n = omega arith in
-    ap (λ (l : List (List Entry)). component_at c e j ∷ l) (components_last c e (j + 1) n ∙ ap (λ (k : ℕ). components_from c e (j + 1) n ++ (component_at c e k ∷ [])) s)
-
-components_count : (c e : List ℕ) (j n : ℕ) → length (components_from c e j n) ≡ n
-unfolding components_from
-components_count c e j zero = refl
-components_count c e j (suc n) = ap suc (components_count c e (j + 1) n)
-
-component_lines_append : (j : ℕ) (xs ys : List (List Entry)) → component_lines j (xs ++ ys) ≡ component_lines j xs ++ component_lines (j + length xs) ys
-unfolding component_lines
-component_lines_append j [] ys = let s : j ≡ j + 0 = omega arith in ap (λ (k : ℕ). component_lines k ys) s
-component_lines_append j (es ∷ xs) ys =
-    let s : suc j + length xs ≡ j + suc (length xs) = omega arith in
-    rw (component_lines_append (suc j) xs ys, s) (simp append_assoc)
+from_joined : (c e : List ℕ) (j n : ℕ) → joined (λ (i : ℕ). component_piece c e (j + i)) n ≡ component_lines j (components_from c e j n)
+unfolding joined component_lines components_from
+from_joined c e j zero = refl
+from_joined c e j (suc n) =
+    let z : j + 0 ≡ j = omega arith in
+    let s : j + 1 ≡ suc j = omega arith in
+    let piece = component_piece c e in
+    let onward = joined_same (λ (i : ℕ). piece (j + suc i)) (λ (i : ℕ). piece (j + 1 + i)) (λ i. let k : j + suc i ≡ j + 1 + i = omega arith in ap piece k) n in
+    joined_first (λ (i : ℕ). piece (j + i)) n
+    ∙ rw (z, onward, from_joined c e (j + 1) n) (rw s (simp (append_assoc, append-nil)))
 
 pub components_joined : (c e : List ℕ) (n : ℕ) → joined (component_piece c e) n ≡ component_lines 0 (components_from c e 0 n)
-unfolding joined component_lines components_from
-components_joined c e zero = refl
-components_joined c e (suc n) =
-    let z : 0 + n ≡ n = omega arith in
-    let from = components_from c e 0 n in
-    ap (λ (l : List ℕ). l ++ component_piece c e n) (components_joined c e n)
-    ∙ sym
-    (ap (component_lines 0) (components_last c e 0 n) ∙ component_lines_append 0 from (component_at c e (0 + n) ∷ [])
-    ∙ ap (λ (k : ℕ). component_lines 0 from ++ component_lines (0 + k) (component_at c e (0 + n) ∷ [])) (components_count c e 0 n)
-    ∙ ap (λ (k : ℕ). component_lines 0 from ++ component_lines k (component_at c e k ∷ [])) z)
+components_joined c e n = joined_same (component_piece c e) _ (λ i. let z : i ≡ 0 + i = omega arith in ap (component_piece c e) z) n ∙ from_joined c e 0 n

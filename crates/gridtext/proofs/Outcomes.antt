@@ -3,6 +3,7 @@
 use mathlib.Core.Path.{◌≡◌, refl, sym, ap, ◌∙◌}
 use mathlib.Core.Logic.{◌⊎◌, inl, inr}
 use mathlib.Core.List.{List, [], ◌∷◌, ◌++◌, append_assoc, append-nil, map}
+use Rattle.std.specs.Prelude.{Option, Some, None}
 use Prim.Native.Nat.{ℕ, ◌+◌, ◌≤◌, ◌<◌}
 use native.Mathlib.Omega.{arith}
 use lib.ListN.{length, take, drop, set, length-append, length-drop, length-map, drop_of_length-le}
@@ -10,7 +11,6 @@ use lib.Seq.{take-suc-set}
 use Rattle.cells.specs.Listed.{In}
 use Rattle.frame.specs.declared.Params.{Params}
 use Rattle.gridtext.specs.declared.FrameRead.{FrameRead}
-use Rattle.gridtext.specs.declared.inner.line.Next.{Next}
 use Rattle.gridtext.specs.declared.inner.row.Sort.{Sort}
 use Rattle.gridtext.specs.Lines.{Optional, ParamsLine, Line, line_of, printed, LineWords}
 use Rattle.gridtext.specs.Text.{most_corner_lines, most_triangle_lines, Frame, lines_of, Within, Fitting, Reads, Bad}
@@ -54,12 +54,12 @@ bad_first text plain ruled = record {
 
 module _ {text out : List ℕ} where
   -- behind the words of one that leaves the rule out, a 1 is put
-  pub plain_at : {next : ℕ} → length out ≡ most_words → LineAt Sort.Params text 0 out (Next.At next) → ParamsAt text (set out 7 1) (Next.At next)
+  pub plain_at : {next : ℕ} → length out ≡ most_words → LineAt Sort.Params text 0 out (Some next) → ParamsAt text (set out 7 1) (Some next)
   unfolding sort_of params_sort line_words param_words rule_words all_params rule_of
   plain_at h (LineAt.found {l} {next} of s t) = go l of s t
     where
       Then : Line → Type 0
-      Then l = Of Sort.Params l → LineStands text 0 l next → take (length (line_words l)) out ≡ line_words l → ParamsAt text (set out 7 1) (Next.At next)
+      Then l = Of Sort.Params l → LineStands text 0 l next → take (length (line_words l)) out ≡ line_words l → ParamsAt text (set out 7 1) (Some next)
 
       one_put : (p : ParamsLine) → Then (with_rule p Optional.absent)
       one_put p of s t = ParamsAt.found of.words s (take-suc-set out 7 1 (omega (arith, h)) ∙ ap (λ (x : List ℕ). x ++ (1 ∷ [])) t)
@@ -70,13 +70,13 @@ module _ {text out : List ℕ} where
       go (Line.triangle c) of s t = let z : ◌≡◌ {A = ℕ} 0 1 = cc of.is in absurd (omega arith)
 
   -- the words of one that gives the rule are all parameters
-  pub ruled_at : {r : Next} → NoLine Sort.Params text 0 → LineAt Sort.Ruled text 0 out r → ParamsAt text out r
+  pub ruled_at : {r : Option ℕ} → NoLine Sort.Params text 0 → LineAt Sort.Ruled text 0 out r → ParamsAt text out r
   unfolding sort_of params_sort line_words param_words rule_words all_params rule_of
   ruled_at none (LineAt.nothing n) = ParamsAt.nothing none n
   ruled_at none (LineAt.found {l} {next} of s t) = go l of s t
     where
       Then : Line → Type 0
-      Then l = Of Sort.Ruled l → LineStands text 0 l next → take (length (line_words l)) out ≡ line_words l → ParamsAt text out (Next.At next)
+      Then l = Of Sort.Ruled l → LineStands text 0 l next → take (length (line_words l)) out ≡ line_words l → ParamsAt text out (Some next)
 
       go : (l : Line) → Then l
       go (Line.params p) of s t = by_rule Then (λ q o _ _. let z : ◌≡◌ {A = ℕ} 0 1 = cc o.is in absurd (omega arith)) (λ q v o at words. ParamsAt.found o.words at words) p of s t
@@ -172,10 +172,10 @@ module _ {text : List ℕ} {f : Frame} {c₀ c t₀ t : List ℕ} {m n end : ℕ
 
 -- ---- what the three readers found
 
-pub params_within : {text out : List ℕ} {next : ℕ} → ParamsAt text out (Next.At next) → next ≤ length text
+pub params_within : {text out : List ℕ} {next : ℕ} → ParamsAt text out (Some next) → next ≤ length text
 params_within (ParamsAt.found w s t) = s.within
 
-pub params_missing : {text out : List ℕ} → ParamsAt text out Next.Nothing → Bad text 1
+pub params_missing : {text out : List ℕ} → ParamsAt text out None → Bad text 1
 params_missing {text} (ParamsAt.nothing plain ruled) = bad_first text plain ruled
 
 pub record Found (text out c₀ c t₀ t : List ℕ) (m n end : ℕ) : Type 0 where
@@ -183,7 +183,7 @@ pub record Found (text out c₀ c t₀ t : List ℕ) (m n end : ℕ) : Type 0 wh
   pub three : Three text frame c₀ c t₀ t m n end
   pub params : take (length (all_params frame.params)) out ≡ all_params frame.params
 
-pub found_three : {text out c₀ c t₀ t : List ℕ} {at m n next end : ℕ} → ParamsAt text out (Next.At at) → LinesAt Sort.Corner most_corner_lines text at c₀ c m next → LinesAt Sort.Triangle most_triangle_lines text next t₀ t n end → Found text out c₀ c t₀ t m n end
+pub found_three : {text out c₀ c t₀ t : List ℕ} {at m n next end : ℕ} → ParamsAt text out (Some at) → LinesAt Sort.Corner most_corner_lines text at c₀ c m next → LinesAt Sort.Triangle most_triangle_lines text next t₀ t n end → Found text out c₀ c t₀ t m n end
 found_three {at = at} {next = next} (ParamsAt.found {p} words s params) cs ts =
     let x = lines_of_lem Line.corner Sort.Corner a_corner cs.lines cs.each in
     let y = lines_of_lem Line.triangle Sort.Triangle a_triangle ts.lines ts.each in

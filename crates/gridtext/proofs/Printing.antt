@@ -1,29 +1,14 @@
 -- A text printed after another is printed with it. Where a whole has room, so has a part that it begins with, and so, after that part, has
 -- what follows. Assumes nothing.
 use mathlib.Core.Path.{◌≡◌, sym, ap, ◌∙◌}
-use mathlib.Core.List.{List, [], ◌∷◌, ◌++◌, append_assoc}
-use Prim.Native.Nat.{ℕ, ◌+◌, ◌≤◌}
+use mathlib.Core.List.{List, ◌++◌, append_assoc}
+use Prim.Native.Nat.{ℕ, ◌+◌}
 use native.Mathlib.Omega.{arith}
 use lib.ListN.{length, take, drop, length-append, length-drop}
-use lib.Seq.{take_at, drop_at, drop-drop, length-take-le, take-length, paste, take-paste, drop-paste}
-use Rattle.gridtext.specs.Lines.{spaced}
-use Rattle.gridtext.specs.inner.Printed.{Printed, Room, last_fields}
+use lib.Seq.{take_at, drop_at, drop-drop, length-take-le}
+use Rattle.gridtext.specs.inner.Printed.{Printed, Room}
 
 -- ---- one text
-
--- bytes put one by one
-pub printed_paste : (before after text : List ℕ) (at i : ℕ) → Room before at text → i ≡ length text → after ≡ paste before at text i → length after ≡ length before → Printed before after at text (at + i)
-printed_paste before after text at i h n e l =
-    let z : at ≤ length before = omega arith in
-    let m : i ≤ length text = omega arith in
-    let w : take i text ≡ text = ap (λ (k : ℕ). take k text) n ∙ take-length text in
-    record {
-      len = l;
-      ends = ap (λ (k : ℕ). at + k) n;
-      within = omega arith;
-      is = ap (take (at + i)) e ∙ take-paste before at text i z m ∙ ap (λ (t : List ℕ). take at before ++ t) w;
-      rest = ap (drop (at + i)) e ∙ drop-paste before at text i z m;
-    }
 
 -- bytes put in the place of as many
 pub printed_between : (before after text : List ℕ) (at end : ℕ) → Room before at text → end ≡ at + length text → after ≡ take at before ++ (text ++ drop end before) → Printed before after at text end
@@ -63,13 +48,3 @@ room_first out at s t e h = omega (arith, ap length e, length-append s t)
 
 pub room_next : {b m : List ℕ} {at k : ℕ} {s : List ℕ} (t : List ℕ) {whole : List ℕ} → Printed b m at s k → s ++ t ≡ whole → Room b at whole → Room m k t
 room_next {s = s} t p e h = omega (arith, p.len, p.ends, ap length e, length-append s t)
-
--- ---- the parts of a line
-
-pub field_then : (f : List ℕ) (fs : List (List ℕ)) → (32 ∷ f) ++ last_fields fs ≡ last_fields (f ∷ fs)
-unfolding spaced
-field_then f fs = ap (λ (l : List ℕ). 32 ∷ l) (sym (append_assoc f (spaced fs) (10 ∷ [])))
-
-pub field_feed : (f : List ℕ) → (32 ∷ f) ++ (10 ∷ []) ≡ last_fields (f ∷ [])
-unfolding spaced
-field_feed f = field_then f []

@@ -3,17 +3,17 @@
 use mathlib.Core.Path.{◌≡◌, refl, sym, ap, ◌∙◌}
 use mathlib.Core.Logic.{◌⊎◌, inl, inr}
 use mathlib.Core.List.{List, [], ◌∷◌, ◌++◌, append_assoc, append-nil}
+use Rattle.std.specs.Prelude.{Some, None}
 use Prim.Native.Nat.{ℕ, ◌+◌, ◌*◌, ◌≤◌, ◌<◌}
 use native.Mathlib.Nat.{zero-mul, add-mul, one-mul, mul-le-mul_right}
 use native.Mathlib.Omega.{arith}
 use lib.ListN.{length, take, drop, length-append}
-use lib.Seq.{paste, length-paste, take_at, drop-append-add, drop-drop}
+use lib.Seq.{paste, length-paste, take_all, take_at, drop-append-add, drop-drop}
 use Rattle.cells.specs.Listed.{In}
 use Rattle.cells.proofs.Tests.{not_in}
-use Rattle.gridtext.specs.declared.inner.line.Next.{Next}
 use Rattle.gridtext.specs.declared.inner.row.Sort.{Sort}
 use Rattle.gridtext.specs.Lines.{Field, Line, line_of, printed}
-use Rattle.gridtext.specs.inner.Rows.{size_of, most_words, spread_words}
+use Rattle.gridtext.specs.inner.Rows.{size_of, spread_words}
 use Rattle.gridtext.specs.inner.Read.{param_words, rule_words, corner_words, triangle_words, line_words, all_words, Laid, params_sort, sort_of, Of, NoLine, LineAt, LinesAt}
 use Rattle.gridtext.proofs.Rows.{by_rule}
 
@@ -60,13 +60,7 @@ once_more count most size h =
     let e : (count + 1) * size ≡ count * size + size = add-mul count 1 size ∙ ap (λ (x : ℕ). count * size + x) (one-mul size) in
     omega (arith, m, e)
 
-pub size_few : (sort : Sort) → size_of sort ≤ most_words
-size_few Sort.Params = omega arith
-size_few Sort.Ruled = omega arith
-size_few Sort.Corner = omega arith
-size_few Sort.Triangle = omega arith
-
-pub line_missing : {sort : Sort} {text : List ℕ} {at : ℕ} {out : List ℕ} → LineAt sort text at out Next.Nothing → NoLine sort text at
+pub line_missing : {sort : Sort} {text : List ℕ} {at : ℕ} {out : List ℕ} → LineAt sort text at out None → NoLine sort text at
 line_missing (LineAt.nothing n) = n
 
 -- ---- the run so far
@@ -117,16 +111,24 @@ module _ {sort : Sort} {most : ℕ} {text : List ℕ} {at : ℕ} {before after :
   words = all_words line_words far.lines
 
   -- its words behind those of the lines before
-  laid_more : (l : Line) (out new : List ℕ) → length (line_words l) ≡ size_of sort → take (length (line_words l)) out ≡ line_words l → new ≡ paste after (count * size_of sort) out (size_of sort) → Laid (all_words line_words (far.lines ++ (l ∷ []))) before new
-  laid_more l out new n t e =
+  laid_more : (l : Line) (part new : List ℕ) → length (line_words l) ≡ size_of sort → part ≡ line_words l
+      → new ≡ paste after (count * size_of sort) part (size_of sort) → Laid (all_words line_words (far.lines ++ (l ∷ []))) before new
+  laid_more l part new n w e =
       let f : take (count * size_of sort) after ≡ words = ap (take (count * size_of sort)) far.laid ∙ take_at words (drop (length words) before) (count * size_of sort) far.size in
-      let g : take (size_of sort) out ≡ line_words l = rw (← n) t in
+      let g : take (size_of sort) part ≡ line_words l = ap (take (size_of sort)) w ∙ take_all (size_of sort) (line_words l) (omega (arith, n)) in
       let h : drop (count * size_of sort + size_of sort) after ≡ drop (length words + length (line_words l)) before = ap (drop (count * size_of sort + size_of sort)) far.laid ∙ rw (← far.size, ← n, drop-append-add, drop-drop) in
       e ∙ rw (f, g, h, words_more far.lines l, length-append words (line_words l))
 
-  pub far_more : {after' : ℕ} (out new : List ℕ) → count < most → LineAt sort text next out (Next.At after') → size_of sort ≤ length out → count * size_of sort + size_of sort ≤ length after → new ≡ paste after (count * size_of sort) out (size_of sort) → SoFar sort most text at before new (count + 1) after'
-  far_more {after'} out new l (LineAt.found {l = line} of s t) h k e =
+  pub far_more : {after' : ℕ} (out part new : List ℕ)
+      → count < most
+      → LineAt sort text next out (Some after')
+      → part ≡ take (size_of sort) out
+      → count * size_of sort + size_of sort ≤ length after
+      → new ≡ paste after (count * size_of sort) part (size_of sort)
+      → SoFar sort most text at before new (count + 1) after'
+  far_more {after'} out part new l (LineAt.found {l = line} of s t) p k e =
       let n : length (line_words line) ≡ size_of sort = line_size line ∙ ap size_of of.is in
+      let w : part ≡ line_words line = p ∙ rw (← n) t in
       record {
         lines = far.lines ++ (line ∷ []);
         each = λ m i. each_of m (in_append far.lines (line ∷ []) i);
@@ -134,9 +136,9 @@ module _ {sort : Sort} {most : ℕ} {text : List ℕ} {at : ℕ} {before after :
         few = omega arith;
         is = far.is ∙ ap (λ (x : List ℕ). printed far.lines ++ x) s.is ∙ rw (printed_more far.lines line, append_assoc, append_assoc);
         within = s.within;
-        laid = laid_more line out new n t e;
+        laid = laid_more line part new n w e;
         size = rw (words_more far.lines line, length-append words (line_words line)) (omega (arith, far.size, n, add-mul count 1 (size_of sort), one-mul (size_of sort)));
-        same = rw e (length-paste after (count * size_of sort) out (size_of sort) k h) ∙ far.same;
+        same = rw e (length-paste after (count * size_of sort) part (size_of sort) k (omega (arith, ap length w, n))) ∙ far.same;
       }
     where
       each_of : (m : Line) → In m far.lines ⊎ In m (line ∷ []) → Of sort m

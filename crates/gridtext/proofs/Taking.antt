@@ -3,14 +3,13 @@
 use mathlib.Core.Bool.{true, false}
 use mathlib.Core.Path.{◌≡◌, refl, sym, ap, ◌∙◌, subst}
 use mathlib.Core.List.{List, [], ◌∷◌, ◌++◌, append-nil, tail}
+use Rattle.std.specs.Prelude.{Some, None}
 use Prim.Native.Nat.{ℕ, suc, ◌+◌, ◌-◌, ◌≤◌, ◌<◌}
 use native.Mathlib.Numerals.{add-one}
 use native.Mathlib.Omega.{arith}
 use lib.ListN.{length, get_or, take, drop, length-append, length-drop, drop_of_length-le}
 use lib.Seq.{drop-cons}
-use Rattle.gridtext.specs.declared.inner.line.Next.{Next}
 use Rattle.gridtext.specs.declared.inner.row.Few.{Few}
-use Rattle.gridtext.specs.declared.inner.row.Found.{Found}
 use Rattle.gridtext.specs.declared.inner.row.Kind.{Kind}
 use Rattle.gridtext.specs.declared.inner.row.Sort.{Sort}
 use Rattle.gridtext.specs.Lines.{Field, Line, line_of}
@@ -67,18 +66,18 @@ module _ {text : List ℕ} {sort : Sort} {at : ℕ} {out : List ℕ} {next n i :
     unfolding total
     more_total = rw split
 
-    pub field_missing : {e : ℕ} → e ≡ end_after (length (kinds_of sort) - 1 - i) → FieldAt (get_or (kinds_of sort) i Kind.Hex) text next e Found.Nothing → NoLine sort text at
+    pub field_missing : {e : ℕ} → e ≡ end_after (length (kinds_of sort) - 1 - i) → FieldAt (get_or (kinds_of sort) i Kind.Hex) text next e None → NoLine sort text at
     field_missing {e} q (FieldAt.nothing none) line rest of is =
         let f = row_first (subst (λ (ks : List Kind). RowAt text ks next rest) split (left line rest of is)) in
         let z : end_after (length (drop (suc i) (kinds_of sort))) ≡ e = sym (q ∙ ap end_after others) in
         none f.field f.after f.allowed (rw z at f.is)
 
-    pub room_more : {e after : ℕ} {few : Few} → FieldAt (get_or (kinds_of sort) i Kind.Hex) text next e (Found.Words few after) → n + length (list_of few) ≤ most_words
+    pub room_more : {e after : ℕ} {few : Few} → FieldAt (get_or (kinds_of sort) i Kind.Hex) text next e (Some (few, after)) → n + length (list_of few) ≤ most_words
     room_more {few = few} (FieldAt.words {f} s w) =
         let c : length (list_of few) ≡ places_of (get_or (kinds_of sort) i Kind.Hex) = sym (ap length w) ∙ words_places (get_or (kinds_of sort) i Kind.Hex) f in
         omega (arith, p.room, more_total)
 
-    pub passed_more : {e after m : ℕ} {few : Few} (new : List ℕ) → e ≡ end_after (length (kinds_of sort) - 1 - i) → FieldAt (get_or (kinds_of sort) i Kind.Hex) text next e (Found.Words few after) → m ≡ n + length (list_of few) → take m new ≡ take n out ++ list_of few → Passed text sort at new after m (i + 1)
+    pub passed_more : {e after m : ℕ} {few : Few} (new : List ℕ) → e ≡ end_after (length (kinds_of sort) - 1 - i) → FieldAt (get_or (kinds_of sort) i Kind.Hex) text next e (Some (few, after)) → m ≡ n + length (list_of few) → take m new ≡ take n out ++ list_of few → Passed text sort at new after m (i + 1)
     passed_more {e} {after} {m} {few} new q (FieldAt.words {f} s w) c t =
         let k = get_or (kinds_of sort) i Kind.Hex in
         let z : e ≡ end_after (length (drop (suc i) (kinds_of sort))) = q ∙ ap end_after others in
@@ -97,7 +96,7 @@ module _ {text : List ℕ} {sort : Sort} {at : ℕ} {out : List ℕ} {next n i :
           some = omega arith;
         }
 
-  pub passed_all : length (kinds_of sort) ≤ i → LineAt sort text at out (Next.At next)
+  pub passed_all : length (kinds_of sort) ≤ i → LineAt sort text at out (Some next)
   unfolding row_of row_words
   passed_all h =
       let g : Got text (kinds_of sort) (at + 2) [] next p.words = rw (drop_of_length-le (kinds_of sort) h) at p.got in

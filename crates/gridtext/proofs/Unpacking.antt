@@ -5,7 +5,7 @@ use mathlib.Core.List.{List, [], ◌∷◌, ◌++◌, append_assoc, map, flat_ma
 use Prim.Native.Nat.{ℕ, zero, suc, ◌+◌, ◌*◌, ◌≤◌}
 use native.Mathlib.Omega.{arith}
 use lib.Ieee.{Float}
-use lib.ListN.{length, get_or, take, replicate, length-append}
+use lib.ListN.{length, get_or, take, length-append}
 use lib.Seq.{get_or-append-add}
 use Rattle.words.specs.Listing.{listing}
 use Rattle.measure.specs.Float.{bits}
@@ -18,7 +18,7 @@ use Rattle.gridtext.specs.Text.{most_corner_lines, most_triangle_lines, Frame}
 use Rattle.gridtext.specs.inner.Read.{corner_words, triangle_words, line_words, all_words, sort_of, frame_of}
 use Rattle.gridtext.specs.inner.Unpacked.{Standing, position_at, slot_at, triple_at, Front}
 use Rattle.gridtext.proofs.Runs.{line_size}
-use Rattle.gridtext.proofs.Filling.{filled_front}
+use Rattle.gridtext.proofs.Filling.{front_taken}
 
 -- ---- listings
 
@@ -149,13 +149,13 @@ module _ (corners triangles : List ℕ) (r : FrameRead) (f : Frame) (s : Standin
       let n = r.corners in
       let m = r.triangles in
       rw (
-        filled_front n _ (replicate most_corner_lines (bits 0)) x ex ∙ ones 0 (λ c. c.x) (λ c rest. (position_own bits c rest).0),
-        filled_front n _ (replicate most_corner_lines (bits 0)) y ey ∙ ones 1 (λ c. c.y) (λ c rest. (position_own bits c rest).1),
-        filled_front (2 * n) _ (replicate (2 * most_corner_lines) (bits 0)) angles ea ∙ twos bits 2 _ (λ c rest. (slot_own bits c rest).0),
-        filled_front (2 * n) _ (replicate (2 * most_corner_lines) 0) marks em ∙ twos (λ (w : ℕ). w) 3 _ (λ c rest. (slot_own (λ (w : ℕ). w) c rest).1),
-        filled_front (2 * n) _ (replicate (2 * most_corner_lines) (bits 0)) spreads es ∙ twos bits 4 _ (λ c rest. (slot_own bits c rest).2),
-        filled_front (3 * m) _ (replicate (3 * most_triangle_lines) 0) named en ∙ threes 0 _ (λ t rest. (triple_own t rest).0),
-        filled_front (3 * m) _ (replicate (3 * most_triangle_lines) 0) twins et ∙ threes 3 _ (λ t rest. (triple_own t rest).1),
+        front_taken n most_corner_lines (bits 0) _ x ex ∙ ones 0 (λ c. c.x) (λ c rest. (position_own bits c rest).0),
+        front_taken n most_corner_lines (bits 0) _ y ey ∙ ones 1 (λ c. c.y) (λ c rest. (position_own bits c rest).1),
+        front_taken (2 * n) (2 * most_corner_lines) (bits 0) _ angles ea ∙ twos bits 2 _ (λ c rest. (slot_own bits c rest).0),
+        front_taken (2 * n) (2 * most_corner_lines) 0 _ marks em ∙ twos (λ (w : ℕ). w) 3 _ (λ c rest. (slot_own (λ (w : ℕ). w) c rest).1),
+        front_taken (2 * n) (2 * most_corner_lines) (bits 0) _ spreads es ∙ twos bits 4 _ (λ c rest. (slot_own bits c rest).2),
+        front_taken (3 * m) (3 * most_triangle_lines) 0 _ named en ∙ threes 0 _ (λ t rest. (triple_own t rest).0),
+        front_taken (3 * m) (3 * most_triangle_lines) 0 _ twins et ∙ threes 3 _ (λ t rest. (triple_own t rest).1),
         ap (λ (q : FrameRead). q.params) s.read,
       )
 

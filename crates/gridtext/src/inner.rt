@@ -5,13 +5,13 @@ ghost use Rattle.gridtext.specs.inner.Read.{ParamsStanding, ParamsAt, Parses};
 ghost use Rattle.gridtext.specs.inner.Rows.{corner_size, triangle_size, most_words};
 ghost use Rattle.gridtext.specs.Text.{most_corner_lines, most_triangle_lines};
 
-use crate::{FrameRead, Parsed};
+use crate::{BadLine, FrameRead};
 use axis::SpreadRule;
 use classify::EdgeParams;
 use fates::LabelParams;
 use filter::FilterParams;
 use frame::Params;
-use line::{Next, line_at};
+use line::line_at;
 use lines::lines_at;
 use measure::inner::float_of;
 use row::Sort;
@@ -51,28 +51,24 @@ fn params_of(words: &[u32; room::MOST_WORDS]) -> Params
 }
 
 // The P line that the text begins with; its parameters to the front of the list. A rule that is left out is rule 1.
-fn params_at(text: &[u8], words: &mut [u32; room::MOST_WORDS]) -> Next
-    requires { length words.old ≡ most_words }
-    ensures { (length words.new ≡ most_words) × ParamsAt text.now words.new result }
+#[tactic(auto, using(crate::proofs::Outcomes::plain_at, crate::proofs::Outcomes::ruled_at, crate::proofs::Runs::line_missing))]
+fn params_at(text: &[u8], words: &mut [u32; room::MOST_WORDS]) -> Option<usize>
+    ensures { ParamsAt text.now words.new result }
 {
-    let plain = line_at(text, 0, Sort::Params, words);
-    let Next::At(next) = plain else {
+    let Some(next) = line_at(text, 0, Sort::Params, words) else {
         return line_at(text, 0, Sort::Ruled, words);
     };
     words[7] = 1;
-    Next::At(next)
+    Some(next)
 }
 
 // Reads a text: the P line, then the C lines, then the T lines, each as far as they go or may; what follows them is the first bad line.
-pub fn read(text: &[u8], corners: &mut [u32], triangles: &mut [u32]) -> Parsed
+pub fn read(text: &[u8], corners: &mut [u32], triangles: &mut [u32]) -> Result<FrameRead, BadLine>
     requires { (most_corner_lines * corner_size ≤ length corners.old) × (most_triangle_lines * triangle_size ≤ length triangles.old) }
     ensures { Parses text.now corners.old corners.new triangles.old triangles.new result }
 {
     let mut words = [0u32; room::MOST_WORDS];
-    let first = params_at(text, &mut words);
-    let Next::At(at) = first else {
-        return Parsed::Bad(1);
-    };
+    let at = params_at(text, &mut words).ok_or(BadLine { line: 1 })?;
     let c = lines_at(text, at, Sort::Corner, room::MOST_CORNER_LINES, corners);
     let t = lines_at(
         text,
@@ -82,9 +78,11 @@ pub fn read(text: &[u8], corners: &mut [u32], triangles: &mut [u32]) -> Parsed
         triangles,
     );
     if t.next < text.len() {
-        return Parsed::Bad((c.count + t.count + 2) as u32);
+        return Err(BadLine {
+            line: (c.count + t.count + 2) as u32,
+        });
     }
-    Parsed::Read(FrameRead {
+    Ok(FrameRead {
         params: params_of(&words),
         corners: c.count,
         triangles: t.count,

@@ -23,11 +23,10 @@ pub struct FrameRead {
     pub triangles: usize,
 }
 
-// The number of the first bad line, or the frame.
-#[derive(Drop)]
-pub enum Parsed {
-    Bad(u32),
-    Read(FrameRead),
+// The number of the first line that is bad.
+#[derive(Clone, Copy, Debug, PartialEq, Eq)]
+pub struct BadLine {
+    pub line: u32,
 }
 
 // Labels the frame, and prints what became of it. There is room for as many components and entries, of three words each, as a text's frame
@@ -55,9 +54,8 @@ pub fn answer(text: &[u8], out: &mut [u8]) -> usize
     }
     let mut corners = [0u32; room::MOST_CORNER_LINES * room::CORNER_SIZE];
     let mut triangles = [0u32; room::MOST_TRIANGLE_LINES * room::TRIANGLE_SIZE];
-    let parsed = inner::read(text, &mut corners, &mut triangles);
-    match parsed {
-        Parsed::Bad(line) => print_bad(line, out),
-        Parsed::Read(frame) => labelled(&corners, &triangles, frame, out),
+    match inner::read(text, &mut corners, &mut triangles) {
+        Err(bad) => print_bad(bad.line, out),
+        Ok(frame) => labelled(&corners, &triangles, frame, out),
     }
 }

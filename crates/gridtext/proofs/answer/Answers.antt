@@ -7,10 +7,10 @@ pub returns-then-out-lt-MOST_TEXT : goal.returns-then-out-lt-MOST_TEXT
 returns-then-out-lt-MOST_TEXT c = unanswered c.if-out-lt-MOST_TEXT.true
 
 pub labelled-requires : goal.labelled-requires
-labelled-requires c = let r = read_frame _ _ c.in-Read.is c.read-parsed.ensures in ((r.frame, r.standing), c.if-out-lt-MOST_TEXT.false)
+labelled-requires c = let r = read_frame c.in-Ok.ensures in ((r.frame, r.standing), c.if-out-lt-MOST_TEXT.false)
 
-pub returns-in-Bad : goal.returns-in-Bad
-returns-in-Bad c = answered c.if-out-lt-MOST_TEXT.false (Answers.bad _ (read_bad _ _ c.in-Bad.is c.read-parsed.ensures)) c.print_bad.ensures
+pub returns-in-Err : goal.returns-in-Err
+returns-in-Err c = answered c.if-out-lt-MOST_TEXT.false (Answers.bad _ (read_bad c.in-Err.ensures)) c.print_bad.ensures
 
-pub returns-in-Read : goal.returns-in-Read
-returns-in-Read c = let r = read_frame _ _ c.in-Read.is c.read-parsed.ensures in c.labelled.ensures r.frame r.standing _ r.reads
+pub returns-in-Ok : goal.returns-in-Ok
+returns-in-Ok c = let r = read_frame c.in-Ok.ensures in c.labelled.ensures r.frame r.standing _ r.reads

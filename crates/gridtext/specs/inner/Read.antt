@@ -1,11 +1,10 @@
 -- What reading a text leaves: the number of its first bad line, or its frame: the parameters, and the other lines as words in the front of
 -- two lists.
-use Rattle.std.specs.Prelude.{◌≡◌, List, [], ◌∷◌, ◌++◌, ℕ, ◌≤◌, ◌<◌, length, take, drop}
+use Rattle.std.specs.Prelude.{◌≡◌, List, [], ◌∷◌, ◌++◌, ℕ, ◌≤◌, ◌<◌, Option, Some, None, Result, Ok, Err, length, take, drop}
 use Rattle.cells.specs.Listed.{In}
 use Rattle.frame.specs.declared.Params.{Params}
 use Rattle.gridtext.specs.declared.FrameRead.{FrameRead}
-use Rattle.gridtext.specs.declared.inner.line.Next.{Next}
-use Rattle.gridtext.specs.declared.Parsed.{Parsed}
+use Rattle.gridtext.specs.declared.BadLine.{BadLine}
 use Rattle.gridtext.specs.declared.inner.row.Sort.{Sort}
 use Rattle.gridtext.specs.Lines.{Optional, ParamsLine, CornerLine, TriangleLine, Line, line_of, printed, LineWords}
 use Rattle.gridtext.specs.inner.Rows.{spread_words}
@@ -74,14 +73,14 @@ pub record LineStands (text : List ℕ) (at : ℕ) (l : Line) (next : ℕ) : Typ
   pub is : drop at text ≡ line_of l ++ (10 ∷ drop next text)
   pub within : next ≤ length text
 
-pub data LineAt (sort : Sort) (text : List ℕ) (at : ℕ) (out : List ℕ) : Next → Type 0 where
-  nothing : NoLine sort text at → LineAt sort text at out Next.Nothing
-  found : {l : Line} {next : ℕ} → Of sort l → LineStands text at l next → take (length (line_words l)) out ≡ line_words l → LineAt sort text at out (Next.At next)
+pub data LineAt (sort : Sort) (text : List ℕ) (at : ℕ) (out : List ℕ) : Option ℕ → Type 0 where
+  nothing : NoLine sort text at → LineAt sort text at out None
+  found : {l : Line} {next : ℕ} → Of sort l → LineStands text at l next → take (length (line_words l)) out ≡ line_words l → LineAt sort text at out (Some next)
 
 -- the text begins with a P line, whose parameters the list begins with, or with none
-pub data ParamsAt (text out : List ℕ) : Next → Type 0 where
-  nothing : NoLine Sort.Params text 0 → NoLine Sort.Ruled text 0 → ParamsAt text out Next.Nothing
-  found : {p : ParamsLine} {next : ℕ} → LineWords (Line.params p) → LineStands text 0 (Line.params p) next → take (length (all_params p)) out ≡ all_params p → ParamsAt text out (Next.At next)
+pub data ParamsAt (text out : List ℕ) : Option ℕ → Type 0 where
+  nothing : NoLine Sort.Params text 0 → NoLine Sort.Ruled text 0 → ParamsAt text out None
+  found : {p : ParamsLine} {next : ℕ} → LineWords (Line.params p) → LineStands text 0 (Line.params p) next → take (length (all_params p)) out ≡ all_params p → ParamsAt text out (Some next)
 
 -- from `at` on stand so many lines of the sort, as many as there are or `most` of them; their words are laid
 pub record LinesAt (sort : Sort) (most : ℕ) (text : List ℕ) (at : ℕ) (before after : List ℕ) (count next : ℕ) : Type 0 where
@@ -101,12 +100,12 @@ unfoldable pub frame_of : Frame → FrameRead
 frame_of f = record { params = params_of f.params; corners = length f.corners; triangles = length f.triangles }
 
 -- where the text is bad, the lists may hold anything: nobody reads them then
-pub data Parses (text corners₀ corners triangles₀ triangles : List ℕ) : Parsed → Type 0 where
-  bad : {k : ℕ} → Bad text k → length corners ≡ length corners₀ → length triangles ≡ length triangles₀ → Parses text corners₀ corners triangles₀ triangles (Parsed.Bad k)
+pub data Parses (text corners₀ corners triangles₀ triangles : List ℕ) : Result FrameRead BadLine → Type 0 where
+  bad : {b : BadLine} → Bad text b.line → length corners ≡ length corners₀ → length triangles ≡ length triangles₀ → Parses text corners₀ corners triangles₀ triangles (Err b)
   read : {r : FrameRead}
       (f : Frame)
       → Reads text f
       → r ≡ frame_of f
       → Laid (all_words corner_words f.corners) corners₀ corners
       → Laid (all_words triangle_words f.triangles) triangles₀ triangles
-      → Parses text corners₀ corners triangles₀ triangles (Parsed.Read r)
+      → Parses text corners₀ corners triangles₀ triangles (Ok r)

@@ -1,10 +1,9 @@
 -- A line as a row: its sort, and its fields one by one, each of a kind that says how it is printed, whether a minus may stand for it, and what
 -- words it gives.
-use Rattle.std.specs.Prelude.{Bool, true, false, ◌≡◌, List, [], ◌∷◌, ◌++◌, ℕ, zero, suc, ◌+◌, ◌≤◌, length, drop}
+use Rattle.std.specs.Prelude.{Bool, true, false, ◌≡◌, List, [], ◌∷◌, ◌++◌, ℕ, zero, suc, ◌+◌, ◌≤◌, Option, Some, None, length, drop}
 use Rattle.digits.specs.Digits.{hex_of, decimal_of}
 use Rattle.digits.specs.declared.Taken.{Taken}
 use Rattle.gridtext.specs.declared.inner.row.Few.{Few}
-use Rattle.gridtext.specs.declared.inner.row.Found.{Found}
 use Rattle.gridtext.specs.declared.inner.row.Kind.{Kind}
 use Rattle.gridtext.specs.declared.inner.row.Sort.{Sort}
 use Rattle.gridtext.specs.Lines.{Field, field_of, IsWord}
@@ -81,9 +80,9 @@ list_of (Few.One w) = w ∷ []
 list_of (Few.Two m w) = m ∷ w ∷ []
 
 -- the field that a word taken from a text is
-abbrev pub found_of : (ℕ → Few) → Taken → Found
-found_of few Taken.Nothing = Found.Nothing
-found_of few (Taken.Word w next) = Found.Words (few w) next
+abbrev pub found_of : (ℕ → Few) → Taken → Option (Few × ℕ)
+found_of few Taken.Nothing = None
+found_of few (Taken.Word w next) = Some (few w, next)
 
 -- two bytes stand at `at`, or they do not
 pub data PairAt (text : List ℕ) (at a b : ℕ) : Bool → Type 0 where
@@ -96,6 +95,6 @@ pub record FieldStands (k : Kind) (text : List ℕ) (at end : ℕ) (f : Field) (
   pub is : drop at text ≡ form_of k f ++ (end ∷ drop next text)
   pub within : next ≤ length text
 
-pub data FieldAt (k : Kind) (text : List ℕ) (at end : ℕ) : Found → Type 0 where
-  nothing : ((f : Field) (rest : List ℕ) → Allowed k f → drop at text ≡ form_of k f ++ (end ∷ rest) → ⊥) → FieldAt k text at end Found.Nothing
-  words : {f : Field} {few : Few} {next : ℕ} → FieldStands k text at end f next → words_of k f ≡ list_of few → FieldAt k text at end (Found.Words few next)
+pub data FieldAt (k : Kind) (text : List ℕ) (at end : ℕ) : Option (Few × ℕ) → Type 0 where
+  nothing : ((f : Field) (rest : List ℕ) → Allowed k f → drop at text ≡ form_of k f ++ (end ∷ rest) → ⊥) → FieldAt k text at end None
+  words : {f : Field} {few : Few} {next : ℕ} → FieldStands k text at end f next → words_of k f ≡ list_of few → FieldAt k text at end (Some (few, next))

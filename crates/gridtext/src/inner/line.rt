@@ -1,4 +1,5 @@
-// One line of a sort, taken from a text field by field.
+// One line of a sort, taken from a text field by field. Readers take the text and a place, not the rest of it: those of `digits` do, and
+// the contracts speak of places.
 ghost use Rattle.std.specs.Prelude.{◌≡◌, ◌++◌, ◌+◌, ◌≤◌, length, take};
 ghost use Rattle.digits.specs.Taken.{end_byte};
 ghost use Rattle.gridtext.specs.inner.Rows.{most_words, list_of, end_after};
@@ -6,14 +7,7 @@ ghost use Rattle.gridtext.specs.inner.Read.{LineAt};
 
 use crate::inner::{room, row};
 use digits::End;
-use row::{Few, Found, Sort};
-
-// A line that was looked for: where the text goes on after it.
-#[derive(Drop)]
-pub(crate) enum Next {
-    Nothing,
-    At(usize),
-}
+use row::{Few, Sort};
 
 // What ends a field: a blank where others follow, and else the line feed.
 fn end_of(others: usize) -> End
@@ -24,8 +18,8 @@ fn end_of(others: usize) -> End
 
 // Puts a field's words after the first n; answers how many they are then.
 fn put_words(few: Few, words: &mut [u32; room::MOST_WORDS], n: usize) -> usize
-    requires { (length words.old ≡ most_words) × (n + length (list_of few) ≤ most_words) }
-    ensures { (length words.new ≡ most_words) × (result ≡ n + length (list_of few)) × (take result words.new ≡ take n words.old ++ list_of few) }
+    requires { n + length (list_of few) ≤ most_words }
+    ensures { (result ≡ n + length (list_of few)) × (take result words.new ≡ take n words.old ++ list_of few) }
 {
     match few {
         Few::One(word) => {
@@ -33,8 +27,7 @@ fn put_words(few: Few, words: &mut [u32; room::MOST_WORDS], n: usize) -> usize
             n + 1
         }
         Few::Two(mark, word) => {
-            words[n] = mark;
-            words[n + 1] = word;
+            words[n..n + 2].copy_from_slice(&[mark, word]);
             n + 2
         }
     }
@@ -46,25 +39,19 @@ pub(crate) fn line_at(
     at: usize,
     sort: Sort,
     words: &mut [u32; room::MOST_WORDS],
-) -> Next
-    requires { length words.old ≡ most_words }
-    ensures { (length words.new ≡ most_words) × LineAt sort text.now at words.new result }
+) -> Option<usize>
+    ensures { LineAt sort text.now at words.new result }
 {
     if !row::pair_at(text, at, row::letter(sort), b' ') {
-        return Next::Nothing;
+        return None;
     }
-    let count = row::fields(sort);
+    let kinds = row::kinds(sort);
     let mut next = at + 2;
     let mut n = 0;
-    let mut i = 0;
-    while i < count {
-        let found = row::field_at(text, next, row::kind_at(sort, i), end_of(count - 1 - i));
-        let Found::Words(few, after) = found else {
-            return Next::Nothing;
-        };
+    for (i, kind) in kinds.iter().enumerate() {
+        let (few, after) = row::field_at(text, next, *kind, end_of(kinds.len() - 1 - i))?;
         n = put_words(few, words, n);
         next = after;
-        i += 1;
     }
-    Next::At(next)
+    Some(next)
 }

@@ -1,6 +1,6 @@
 // Prints an answer: each function writes its text from a place on, answers where the text ends, and leaves the rest of the list as it was.
-// Callers see to it that the text has room.
-ghost use Rattle.std.specs.Prelude.{[], ◌∷◌, ◌+◌, ◌*◌, ◌≤◌, ◌<◌, length};
+// Callers see to it that the text has room. The list and a place stand side by side, as `digits::inner::put_decimal` takes them.
+ghost use Rattle.std.specs.Prelude.{[], ◌∷◌, map, ◌+◌, ◌*◌, ◌≤◌, ◌<◌, length};
 ghost use Rattle.walk.specs.Read.{entry_at, entries_from, component_at};
 ghost use Rattle.digits.specs.Digits.{decimal_of};
 ghost use Rattle.gridtext.specs.Answer.{bad_text, refused_text, entry_line, entry_lines, component_lines};
@@ -8,19 +8,15 @@ ghost use Rattle.gridtext.specs.inner.Held.{bad_bytes, refused_bytes, Printable,
 ghost use Rattle.gridtext.specs.inner.Printed.{Printed, Room, last_fields};
 
 use refusal::Refusal;
-use words::inner::wide;
 
 // The bytes as they are.
 fn put_bytes(out: &mut [u8], at: usize, text: &[u8]) -> usize
     requires { Room out.old at text.now }
     ensures { Printed out.old out.new at text.now result }
 {
-    let mut i = 0;
-    while i < text.len() {
-        out[at + i] = text[i];
-        i += 1;
-    }
-    at + i
+    let end = at + text.len();
+    out[at..end].copy_from_slice(text);
+    end
 }
 
 // A number's digits.
@@ -40,31 +36,16 @@ fn put_field(out: &mut [u8], at: usize, n: u32) -> usize
     put_number(out, next, n)
 }
 
-// The last field of a line.
-fn end_one(out: &mut [u8], at: usize, a: u32) -> usize
-    requires { Room out.old at (last_fields (decimal_of a ∷ [])) }
-    ensures { Printed out.old out.new at (last_fields (decimal_of a ∷ [])) result }
+// The last fields of a line, and its line feed.
+fn end_line(out: &mut [u8], at: usize, fields: &[u32]) -> usize
+    requires { Room out.old at (last_fields (map decimal_of fields.now)) }
+    ensures { Printed out.old out.new at (last_fields (map decimal_of fields.now)) result }
 {
-    let next = put_field(out, at, a);
+    let mut next = at;
+    for field in fields {
+        next = put_field(out, next, *field);
+    }
     put_bytes(out, next, b"\n")
-}
-
-// The last two fields of a line.
-fn end_two(out: &mut [u8], at: usize, a: u32, b: u32) -> usize
-    requires { Room out.old at (last_fields (decimal_of a ∷ decimal_of b ∷ [])) }
-    ensures { Printed out.old out.new at (last_fields (decimal_of a ∷ decimal_of b ∷ [])) result }
-{
-    let next = put_field(out, at, a);
-    end_one(out, next, b)
-}
-
-// The last three fields of a line.
-fn end_three(out: &mut [u8], at: usize, a: u32, b: u32, c: u32) -> usize
-    requires { Room out.old at (last_fields (decimal_of a ∷ decimal_of b ∷ decimal_of c ∷ [])) }
-    ensures { Printed out.old out.new at (last_fields (decimal_of a ∷ decimal_of b ∷ decimal_of c ∷ [])) result }
-{
-    let next = put_field(out, at, a);
-    end_two(out, next, b, c)
 }
 
 // The first line that is bad.
@@ -73,7 +54,7 @@ pub fn print_bad(line: u32, out: &mut [u8]) -> usize
     ensures { Printed out.old out.new 0 (bad_text line) result }
 {
     let next = put_bytes(out, 0, b"bad");
-    end_one(out, next, line)
+    end_line(out, next, &[line])
 }
 
 // A refusal, by its number and place, and what stands beside the place.
@@ -86,9 +67,9 @@ pub fn print_refused(why: Refusal, out: &mut [u8]) -> usize
     let beside = refusal::beside(why);
     let next = put_bytes(out, 0, b"refused");
     if refusal::has_beside(number) {
-        return end_three(out, next, number, place, beside);
+        return end_line(out, next, &[number, place, beside]);
     }
-    end_two(out, next, number, place)
+    end_line(out, next, &[number, place])
 }
 
 // Entry k: u, v, corner.
@@ -100,7 +81,7 @@ fn put_entry(entries: &[u32], k: usize, out: &mut [u8], at: usize) -> usize
     let v = entries[3 * k + 1];
     let corner = entries[3 * k + 2];
     let next = put_number(out, at, u);
-    end_two(out, next, v, corner)
+    end_line(out, next, &[v, corner])
 }
 
 // The entries that stand after those before.
@@ -109,10 +90,8 @@ fn put_entries(entries: &[u32], before: usize, count: usize, out: &mut [u8], at:
     ensures { Printed out.old out.new at (entry_lines (entries_from entries.now before count)) result }
 {
     let mut next = at;
-    let mut i = 0;
-    while i < count {
+    for i in 0..count {
         next = put_entry(entries, before + i, out, next);
-        i += 1;
     }
     next
 }
@@ -122,13 +101,13 @@ fn put_component(components: &[u32], entries: &[u32], j: u32, out: &mut [u8], at
     requires { Readable components.now entries.now j × Room out.old at (component_lines j (component_at components.now entries.now j ∷ [])) }
     ensures { Printed out.old out.new at (component_lines j (component_at components.now entries.now j ∷ [])) result }
 {
-    let place = 3 * wide(j);
+    let place = 3 * j as usize;
     let before = components[place];
     let count = components[place + 1];
     let holes = components[place + 2];
     let word = put_bytes(out, at, b"component");
-    let next = end_three(out, word, j, count, holes);
-    put_entries(entries, wide(before), wide(count), out, next)
+    let next = end_line(out, word, &[j, count, holes]);
+    put_entries(entries, before as usize, count as usize, out, next)
 }
 
 // The answer that the lists hold: the count of components, and each with its entries.
@@ -137,11 +116,9 @@ pub fn print_components(components: &[u32], entries: &[u32], count: u32, out: &m
     ensures { PrintsHeld components.now entries.now count out.old out.new result }
 {
     let word = put_bytes(out, 0, b"components");
-    let mut next = end_one(out, word, count);
-    let mut j = 0;
-    while j < count {
+    let mut next = end_line(out, word, &[count]);
+    for j in 0..count {
         next = put_component(components, entries, j, out, next);
-        j += 1;
     }
     next
 }

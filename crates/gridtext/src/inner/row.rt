@@ -1,5 +1,5 @@
 // The sorts of line, and the fields of each: of which kind they are, and how a field of a kind is read.
-ghost use Rattle.std.specs.Prelude.{◌≡◌, ◌<◌, length, get_or};
+ghost use Rattle.std.specs.Prelude.{◌≡◌};
 ghost use Rattle.digits.specs.Taken.{end_byte};
 ghost use Rattle.gridtext.specs.inner.Rows.{letter_of, kinds_of, size_of, found_of, PairAt, FieldAt};
 
@@ -17,7 +17,7 @@ pub(crate) enum Sort {
 }
 
 // The kinds of field: a float's hex digits, a decimal number, a spread and a twin; a minus can stand for the last two.
-#[derive(Drop)]
+#[derive(Clone, Copy)]
 pub(crate) enum Kind {
     Hex,
     Decimal,
@@ -32,34 +32,56 @@ pub(crate) enum Few {
     Two(u32, u32),
 }
 
-// A field that was looked for: its words and where the text goes on.
-#[derive(Drop)]
-pub(crate) enum Found {
-    Nothing,
-    Words(Few, usize),
-}
+// The fields of a P line with the rule's number, of a C line and of a T line.
+const RULED: [Kind; 8] = [
+    Kind::Hex,
+    Kind::Hex,
+    Kind::Hex,
+    Kind::Hex,
+    Kind::Hex,
+    Kind::Decimal,
+    Kind::Decimal,
+    Kind::Decimal,
+];
+
+const CORNER: [Kind; 6] = [
+    Kind::Hex,
+    Kind::Hex,
+    Kind::Hex,
+    Kind::Spread,
+    Kind::Hex,
+    Kind::Spread,
+];
+
+const TRIANGLE: [Kind; 6] = [
+    Kind::Decimal,
+    Kind::Decimal,
+    Kind::Decimal,
+    Kind::Twin,
+    Kind::Twin,
+    Kind::Twin,
+];
 
 // The letter that a line begins with.
 pub(crate) fn letter(sort: Sort) -> u8
     ensures { result ≡ letter_of sort }
 {
     match sort {
-        Sort::Params => b'P',
-        Sort::Ruled => b'P',
+        Sort::Params | Sort::Ruled => b'P',
         Sort::Corner => b'C',
         Sort::Triangle => b'T',
     }
 }
 
-// How many fields a line has.
-pub(crate) fn fields(sort: Sort) -> usize
-    ensures { result ≡ length (kinds_of sort) }
+// The kinds of its fields.
+pub(crate) fn kinds(sort: Sort) -> &'static [Kind]
+    ensures { result.now ≡ kinds_of sort }
 {
     match sort {
-        Sort::Params => 7,
-        Sort::Ruled => 8,
-        Sort::Corner => 6,
-        Sort::Triangle => 6,
+        Sort::Params => &RULED[..RULED.len() - 1],
+        Sort::Ruled => &RULED,
+        Sort::Corner => &CORNER,
+        Sort::Triangle => &TRIANGLE,
     }
 }
 
@@ -75,85 +97,58 @@ pub(crate) fn size(sort: Sort) -> usize
     }
 }
 
-// The kind of field i.
-pub(crate) fn kind_at(sort: Sort, i: usize) -> Kind
-    requires { i < length (kinds_of sort) }
-    ensures { result ≡ get_or (kinds_of sort) i Kind.Hex }
-{
-    match sort {
-        Sort::Params => if i < 5 { Kind::Hex } else { Kind::Decimal },
-        Sort::Ruled => if i < 5 { Kind::Hex } else { Kind::Decimal },
-        Sort::Corner => {
-            if i == 3 {
-                Kind::Spread
-            } else if i == 5 {
-                Kind::Spread
-            } else {
-                Kind::Hex
-            }
-        }
-        Sort::Triangle => if i < 3 { Kind::Decimal } else { Kind::Twin },
-    }
-}
-
 // Whether two bytes stand at `at`.
 pub(crate) fn pair_at(text: &[u8], at: usize, first: u8, second: u8) -> bool
     ensures { PairAt text.now at first second result }
 {
-    if text.len() <= at {
-        return false;
-    }
-    if text[at] != first {
-        return false;
-    }
-    if at + 1 < text.len() {
-        return text[at + 1] == second;
-    }
-    false
+    at <= text.len() && text[at..].starts_with(&[first, second])
 }
 
 // A word that was taken, as a field of one word.
-fn one_word(taken: Taken) -> Found
+fn one_word(taken: Taken) -> Option<(Few, usize)>
     ensures { result ≡ found_of Few.One taken }
 {
     match taken {
-        Taken::Nothing => Found::Nothing,
-        Taken::Word(word, next) => Found::Words(Few::One(word), next),
+        Taken::Nothing => None,
+        Taken::Word(word, next) => Some((Few::One(word), next)),
     }
 }
 
 // A word that was taken, as a spread: the mark 1 says that it is there.
-fn marked_word(taken: Taken) -> Found
+fn marked_word(taken: Taken) -> Option<(Few, usize)>
     ensures { result ≡ found_of (Few.Two 1) taken }
 {
     match taken {
-        Taken::Nothing => Found::Nothing,
-        Taken::Word(word, next) => Found::Words(Few::Two(1, word), next),
+        Taken::Nothing => None,
+        Taken::Word(word, next) => Some((Few::Two(1, word), next)),
     }
 }
 
 // A spread from `at` on, then the end: a minus where it is missing, or else a float.
-fn spread_at(text: &[u8], at: usize, end: End) -> Found
+#[tactic(auto, using(crate::proofs::Fields::spread_field, crate::proofs::Fields::no_spread))]
+fn spread_at(text: &[u8], at: usize, end: End) -> Option<(Few, usize)>
     ensures { FieldAt Kind.Spread text.now at (end_byte end) result }
 {
     if pair_at(text, at, b'-', digits::byte(end)) {
-        return Found::Words(Few::Two(0, 0), at + 2);
+        return Some((Few::Two(0, 0), at + 2));
     }
     marked_word(digits::hex_at(text, at, end))
 }
 
 // A twin from `at` on, then the end: a minus where there is none, or else a number.
-fn twin_at(text: &[u8], at: usize, end: End) -> Found
+#[tactic(auto, using(crate::proofs::Fields::twin_field, crate::proofs::Fields::no_twin_lem))]
+fn twin_at(text: &[u8], at: usize, end: End) -> Option<(Few, usize)>
     ensures { FieldAt Kind.Twin text.now at (end_byte end) result }
 {
     if pair_at(text, at, b'-', digits::byte(end)) {
-        return Found::Words(Few::One(NO_TWIN), at + 2);
+        return Some((Few::One(NO_TWIN), at + 2));
     }
     one_word(digits::decimal_at(text, at, end))
 }
 
 // A field of the kind from `at` on, then the end.
-pub(crate) fn field_at(text: &[u8], at: usize, kind: Kind, end: End) -> Found
+#[tactic(auto, using(crate::proofs::Fields::hex_field, crate::proofs::Fields::decimal_field))]
+pub(crate) fn field_at(text: &[u8], at: usize, kind: Kind, end: End) -> Option<(Few, usize)>
     ensures { FieldAt kind text.now at (end_byte end) result }
 {
     match kind {

@@ -8,19 +8,20 @@ ghost use Rattle.gridtext.specs.inner.Unpacked.{position_at, slot_at, triple_at,
 
 use crate::inner::room;
 use measure::inner::float_of;
+use std::array;
 
 // A position of n corners: their x from word 0, their y from word 1.
 pub(crate) fn positions(corners: &[u32], n: usize, start: usize) -> [f32; room::MOST_CORNER_LINES]
     requires { (n ≤ most_corner_lines) × (corner_size * n ≤ length corners.now) × (start < corner_size) }
     ensures { Front n most_corner_lines (bits 0) (λ t. bits (get_or corners.now (position_at start t) 0)) result }
 {
-    let mut out = [0.0f32; room::MOST_CORNER_LINES];
-    let mut t = 0;
-    while t < n {
-        out[t] = float_of(corners[room::CORNER_SIZE * t + start]);
-        t += 1;
-    }
-    out
+    array::from_fn(|t| {
+        if t < n {
+            float_of(corners[room::CORNER_SIZE * t + start])
+        } else {
+            0.0
+        }
+    })
 }
 
 // The two slots of n corners: their angles from word 2, their spreads from word 4.
@@ -28,13 +29,13 @@ pub(crate) fn slots(corners: &[u32], n: usize, start: usize) -> [f32; 2 * room::
     requires { (n ≤ most_corner_lines) × (corner_size * n ≤ length corners.now) × (start < 5) }
     ensures { Front (2 * n) (2 * most_corner_lines) (bits 0) (λ t. bits (get_or corners.now (slot_at start t) 0)) result }
 {
-    let mut out = [0.0f32; 2 * room::MOST_CORNER_LINES];
-    let mut t = 0;
-    while t < 2 * n {
-        out[t] = float_of(corners[room::CORNER_SIZE * (t / 2) + 3 * (t % 2) + start]);
-        t += 1;
-    }
-    out
+    array::from_fn(|t| {
+        if t < 2 * n {
+            float_of(corners[room::CORNER_SIZE * (t / 2) + 3 * (t % 2) + start])
+        } else {
+            0.0
+        }
+    })
 }
 
 // The marks of n corners' spreads.
@@ -42,13 +43,13 @@ pub(crate) fn marks(corners: &[u32], n: usize) -> [u32; 2 * room::MOST_CORNER_LI
     requires { (n ≤ most_corner_lines) × (corner_size * n ≤ length corners.now) }
     ensures { Front (2 * n) (2 * most_corner_lines) 0 (λ t. get_or corners.now (slot_at 3 t) 0) result }
 {
-    let mut out = [0u32; 2 * room::MOST_CORNER_LINES];
-    let mut t = 0;
-    while t < 2 * n {
-        out[t] = corners[room::CORNER_SIZE * (t / 2) + 3 * (t % 2) + 3];
-        t += 1;
-    }
-    out
+    array::from_fn(|t| {
+        if t < 2 * n {
+            corners[room::CORNER_SIZE * (t / 2) + 3 * (t % 2) + 3]
+        } else {
+            0
+        }
+    })
 }
 
 // Three words of n triangles: their corners from word 0, their twins from word 3.
@@ -60,11 +61,11 @@ pub(crate) fn triples(
     requires { (n ≤ most_triangle_lines) × (triangle_size * n ≤ length triangles.now) × (start < 4) }
     ensures { Front (3 * n) (3 * most_triangle_lines) 0 (λ t. get_or triangles.now (triple_at start t) 0) result }
 {
-    let mut out = [0u32; 3 * room::MOST_TRIANGLE_LINES];
-    let mut t = 0;
-    while t < 3 * n {
-        out[t] = triangles[room::TRIANGLE_SIZE * (t / 3) + t % 3 + start];
-        t += 1;
-    }
-    out
+    array::from_fn(|t| {
+        if t < 3 * n {
+            triangles[room::TRIANGLE_SIZE * (t / 3) + t % 3 + start]
+        } else {
+            0
+        }
+    })
 }

@@ -30,14 +30,14 @@ printed_refused : (why : Refusal) (has : Bool) {n p b : ℕ} {before mid after :
 unfolding refused_text numbers_line
 printed_refused why has e f g h word rest = printed_as (ap (λ (l : List (List ℕ)). refused ++ last_fields l) (fields_are why has e f g h)) (printed_then word rest)
 
-pub end_three-requires : goal.end_three-requires
-end_three-requires c = three_after _ _ _ c.put_bytes-next.ensures refl c.number-number.type_inv c.place-place.type_inv c.beside-beside.type_inv c.requires
+pub end_line-requires : goal.end_line-requires
+end_line-requires c = three_after _ _ _ c.put_bytes-next.ensures refl c.number-number.type_inv c.place-place.type_inv c.beside-beside.type_inv c.requires
 
 pub returns-then-has_beside : goal.returns-then-has_beside
-returns-then-has_beside c = printed_refused c.args.why _ c.number-number.ensures c.place-place.ensures c.beside-beside.ensures (sym c.has_beside.ensures ∙ c.if-has_beside.true) c.put_bytes-next.ensures c.end_three.ensures
+returns-then-has_beside c = printed_refused c.args.why _ c.number-number.ensures c.place-place.ensures c.beside-beside.ensures (sym c.has_beside.ensures ∙ c.if-has_beside.true) c.put_bytes-next.ensures c.end_line.ensures
 
-pub end_two-requires : goal.end_two-requires
-end_two-requires c = two_after _ _ c.put_bytes-next.ensures refl c.number-number.type_inv c.place-place.type_inv c.requires
+pub end_line-requires-2 : goal.end_line-requires-2
+end_line-requires-2 c = two_after _ _ c.put_bytes-next.ensures refl c.number-number.type_inv c.place-place.type_inv c.requires
 
 pub returns : goal.returns
-returns c = printed_refused c.args.why _ c.number-number.ensures c.place-place.ensures c.beside-beside.ensures (sym c.has_beside.ensures ∙ c.if-has_beside.false) c.put_bytes-next.ensures c.end_two.ensures
+returns c = printed_refused c.args.why _ c.number-number.ensures c.place-place.ensures c.beside-beside.ensures (sym c.has_beside.ensures ∙ c.if-has_beside.false) c.put_bytes-next.ensures c.end_line-2.ensures

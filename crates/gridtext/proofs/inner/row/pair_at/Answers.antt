@@ -1,46 +1,39 @@
 -- `pair_at` tells whether the two bytes stand: where the text is too short, or a byte is another, they do not.
 use mathlib.Core.Bool.{Bool, true, false}
-use mathlib.Core.List.{List}
+use mathlib.Core.List.{List, [], ◌∷◌}
 use mathlib.Core.Path.{◌≡◌, refl, sym, ap, ◌∙◌}
-use Prim.Native.Nat.{ℕ, suc, ◌+◌, ◌-◌, ◌≤◌, ◌<◌}
-use native.Mathlib.Nat.{add-zero}
-use native.Mathlib.Numerals.{add-one}
+use Prim.Native.Nat.{ℕ, suc, ◌+◌, ◌-◌, ◌≤◌}
 use native.Mathlib.Omega.{arith}
-use borrow.Author.Tests.{eqb-true, eqb-false}
+use borrow.Author.Tests.{lt-leb}
 use lib.Dec.{eqb}
-use lib.ListN.{length, get_or, drop, length-drop}
-use lib.Seq.{get_or-drop, drop-cons}
+use lib.ListN.{length, drop, length-drop}
+use lib.Seq.{drop-drop}
+use Rattle.std.specs.List.{starts_with}
+use Rattle.std.proofs.lemmas.Bool.{false≢true}
+use Rattle.std.proofs.lemmas.Bool.Decides.{Decides-eqb}
+use Rattle.std.proofs.lemmas.Slice.{between_to_end}
+use Rattle.std.proofs.lemmas.Slice.Eq.{starts_is}
 use Rattle.gridtext.specs.inner.Rows.{PairAt}
 use Rattle.gridtext.proofs.inner.row.pair_at.Goals as goal
 
 module _ (text : List ℕ) (at a b : ℕ) where
-  short : length text < at + 2 → PairAt text at a b false
-  short h = PairAt.elsewhere (λ rest e. let l : length text - at ≡ suc (suc (length rest)) = sym (length-drop at text) ∙ ap length e in omega arith)
+  -- two bytes from there on are within the text
+  within : (rest : List ℕ) → drop at text ≡ a ∷ b ∷ rest → at + 2 ≤ length text
+  within rest e = let l : length text - at ≡ suc (suc (length rest)) = sym (length-drop at text) ∙ ap length e in omega arith
 
-  other-first : (get_or text at 0 ≡ a → ⊥) → PairAt text at a b false
-  other-first n =
-      PairAt.elsewhere
-      (λ rest e. let g : get_or (drop at text) 0 0 ≡ a = ap (λ (l : List ℕ). get_or l 0 0) e in n (rw (get_or-drop, add-zero) at g))
-
-  by-second : at + 2 ≤ length text → get_or text at 0 ≡ a → (t : Bool) → eqb (get_or text (at + 1) 0) b ≡ t → PairAt text at a b t
-  by-second h e true q =
-      let z : at + 2 ≡ suc (suc at) = omega arith in
-      let g : get_or text (suc at) 0 ≡ b = rw add-one at (eqb-true (get_or text (at + 1) 0) b q) in
-      PairAt.there (drop-cons text at 0 (omega arith) ∙ rw (drop-cons text (suc at) 0 (omega arith), e, g, z)) h
-  by-second h e false q =
-      PairAt.elsewhere
-      (λ rest p. let g : get_or (drop at text) 1 0 ≡ b = ap (λ (l : List ℕ). get_or l 1 0) p in eqb-false (get_or text (at + 1) 0) b q (rw get_or-drop at g))
-
-pub returns-then-text-at : goal.returns-then-text-at
-returns-then-text-at c = let a = c.args in short a.text.now a.at a.first a.second (omega arith)
-
-pub returns-then-text-at-2 : goal.returns-then-text-at-2
-returns-then-text-at-2 c = let a = c.args in other-first a.text.now a.at a.first a.second c.if-text-at-2.true
+  by_front : (t : Bool) → t ≡ starts_with eqb (drop at text) (a ∷ b ∷ []) → PairAt text at a b t
+  by_front true e =
+      let s = (starts_is Decides-eqb (drop at text) (a ∷ b ∷ []) true e).0 refl in
+      PairAt.there (rw drop-drop at s) (within _ s)
+  by_front false e = PairAt.elsewhere (λ rest q. false≢true ((starts_is Decides-eqb (drop at text) (a ∷ b ∷ []) false e).1 rest q))
 
 pub returns-then-at-text : goal.returns-then-at-text
 returns-then-at-text c =
     let a = c.args in
-    by-second a.text.now a.at a.first a.second (omega arith) c.if-text-at-2.false _ refl
+    by_front a.text.now a.at a.first a.second _ (rw (between_to_end a.text.now a.at (length a.text.now) (omega arith)) at c.starts_with.ensures.value)
 
-pub returns : goal.returns
-returns c = let a = c.args in short a.text.now a.at a.first a.second (omega arith)
+pub returns-else-at-text : goal.returns-else-at-text
+returns-else-at-text c =
+    let a = c.args in
+    rw (lt-leb a.at (length a.text.now) c.if-at-text.false)
+    (PairAt.elsewhere (λ rest e. let h = within a.text.now a.at a.first a.second rest e in omega arith))
