@@ -2,6 +2,7 @@
 use mathlib.Core.Path.{◌≡◌, refl, sym, ap, ◌∙◌}
 use mathlib.Core.List.{List, [], ◌∷◌, ◌++◌}
 use Prim.Native.Nat.{ℕ, ◌+◌, ◌<◌}
+use Rattle.std.proofs.Common.{Option}
 use lib.ListN.{length, drop}
 use Rattle.digits.specs.declared.End.{End}
 use Rattle.digits.specs.declared.End.TheVariants.{Blank}
@@ -15,7 +16,7 @@ module _ (form : ℕ → List ℕ) (end : ℕ) (marked : Marked form end) where
   one_form : (v w : ℕ) → v < words → w < words → form v ≡ form w → v ≡ w
   one_form v w a b e = (marked v w [] [] a b (ap (λ (l : List ℕ). l ++ (end ∷ [])) e)).0
 
-  one_answer : {text : List ℕ} {at : ℕ} {r s : Taken} → Takes form text at end r → Takes form text at end s → r ≡ s
+  one_answer : {text : List ℕ} {at : ℕ} {r s : Option (Taken ℕ)} → Takes form text at end r → Takes form text at end s → r ≡ s
   one_answer (nothing n) (nothing m) = refl
   one_answer (nothing n) (word s) = absurd (n _ _ s.word s.is)
   one_answer (word s) (nothing n) = absurd (n _ _ s.word s.is)
@@ -30,8 +31,8 @@ hex_injective = one_form hex_of (end_byte Blank) (one_hex Blank)
 pub decimal_injective : (v w : ℕ) → v < words → w < words → decimal_of v ≡ decimal_of w → v ≡ w
 decimal_injective = one_form decimal_of (end_byte Blank) (one_decimal Blank)
 
-pub hex_determined : (end : End) {text : List ℕ} {at : ℕ} {r s : Taken} → Takes hex_of text at (end_byte end) r → Takes hex_of text at (end_byte end) s → r ≡ s
+pub hex_determined : (end : End) {text : List ℕ} {at : ℕ} {r s : Option (Taken ℕ)} → Takes hex_of text at (end_byte end) r → Takes hex_of text at (end_byte end) s → r ≡ s
 hex_determined end = one_answer hex_of (end_byte end) (one_hex end)
 
-pub decimal_determined : (end : End) {text : List ℕ} {at : ℕ} {r s : Taken} → Takes decimal_of text at (end_byte end) r → Takes decimal_of text at (end_byte end) s → r ≡ s
+pub decimal_determined : (end : End) {text : List ℕ} {at : ℕ} {r s : Option (Taken ℕ)} → Takes decimal_of text at (end_byte end) r → Takes decimal_of text at (end_byte end) s → r ≡ s
 decimal_determined end = one_answer decimal_of (end_byte end) (one_decimal end)

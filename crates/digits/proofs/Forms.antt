@@ -9,6 +9,7 @@ use native.Mathlib.Numerals.{add-one}
 use native.Mathlib.Omega.{arith}
 use lib.ListN.{length, get_or, drop, length-append, length-drop, get_or-append}
 use lib.Seq.{get_or-drop, get_or_at, drop_at, drop-cons}
+use Rattle.std.proofs.Common.{Some, None}
 use Rattle.io.specs.Digits.{IsDigitCount}
 use Rattle.digits.specs.declared.End.{End}
 use Rattle.digits.specs.declared.End.TheVariants.{Blank, Feed}
@@ -16,7 +17,6 @@ use Rattle.digits.specs.Digits.{hex_of, decimal_of}
 use Rattle.digits.specs.inner.Run.{numeral, NoDigit, Run}
 use Rattle.digits.specs.Taken.{end_byte, words, Stands, Takes}
 use Rattle.digits.specs.Taken.Takes.{nothing, word}
-use Rattle.digits.specs.declared.Taken.TheVariants.{Nothing, Word}
 use Rattle.digits.proofs.Numerals.{numeral_length, numeral_digit, one_run, by_digit}
 use Rattle.digits.proofs.Places.{places, fewest, word_places, decimal_numeral, nought_first, first_nought}
 
@@ -131,7 +131,7 @@ no_leading_nought v r rest e = go (places v) (fewest v) (sym (ap (λ (l : List �
 -- ---- what the readers answer
 
 module _ {text : List ℕ} {at value count : ℕ} (end : End) where
-  pub no_hex : Run text at 16 8 value count → ((8 ≡ count) → at + count < length text → get_or text (at + count) 0 ≡ end_byte end → ⊥) → Takes hex_of text at (end_byte end) Nothing
+  pub no_hex : Run text at 16 8 value count → ((8 ≡ count) → at + count < length text → get_or text (at + count) 0 ≡ end_byte end → ⊥) → Takes hex_of text at (end_byte end) None
   no_hex run unless =
       nothing
       (λ v rest w is.
@@ -139,7 +139,7 @@ module _ {text : List ℕ} {at value count : ℕ} (end : End) where
       let f = front text (at + count) (end_byte end) rest o.2 in
       unless o.0 f.0 f.1)
 
-  pub no_decimal : Run text at 10 10 value count → (IsDigitCount 10 1 value count → value < words → at + count < length text → get_or text (at + count) 0 ≡ end_byte end → ⊥) → Takes decimal_of text at (end_byte end) Nothing
+  pub no_decimal : Run text at 10 10 value count → (IsDigitCount 10 1 value count → value < words → at + count < length text → get_or text (at + count) 0 ≡ end_byte end → ⊥) → Takes decimal_of text at (end_byte end) None
   no_decimal run unless =
       nothing
       (λ v rest w is.
@@ -172,11 +172,11 @@ module _ {text : List ℕ} {at value : ℕ} where
       go (no b) l = omega (arith, b)
 
 module _ {text : List ℕ} {at value count : ℕ} (end : End) where
-  pub hex_word : Run text at 16 8 value count → 8 ≡ count → at + 8 < length text → get_or text (at + 8) 0 ≡ end_byte end → Takes hex_of text at (end_byte end) (Word value (at + 9))
+  pub hex_word : Run text at 16 8 value count → 8 ≡ count → at + 8 < length text → get_or text (at + 8) 0 ≡ end_byte end → Takes hex_of text at (end_byte end) (Some (record { value = value; next = at + 9 }))
   hex_word run q l g =
       let r : Run text at 16 8 value 8 = subst (λ (n : ℕ). Run text at 16 8 value n) (sym q) run in
       let n : at + 8 + 1 ≡ at + 9 = omega arith in
       word (rw n at (stands r hex_of (end_byte end) (omega (arith, r.below)) (hex_numeral value) l g))
 
-  pub decimal_word : Run text at 10 10 value count → IsDigitCount 10 1 value count → value < words → at + count < length text → get_or text (at + count) 0 ≡ end_byte end → Takes decimal_of text at (end_byte end) (Word value (at + count + 1))
+  pub decimal_word : Run text at 10 10 value count → IsDigitCount 10 1 value count → value < words → at + count < length text → get_or text (at + count) 0 ≡ end_byte end → Takes decimal_of text at (end_byte end) (Some (record { value = value; next = at + count + 1 }))
   decimal_word run f w l g = word (stands run decimal_of (end_byte end) w (decimal_numeral value count f) l g)

@@ -1,9 +1,8 @@
 -- What a reader finds in a text from a place on: the printed form of a value and one byte after it, or that there is none.
-use Rattle.std.specs.Prelude.{◌≡◌, List, ◌∷◌, ◌++◌, ℕ, ◌+◌, ◌<◌, length, drop}
+use Rattle.std.specs.Prelude.{◌≡◌, List, ◌∷◌, ◌++◌, ℕ, ◌+◌, ◌<◌, length, drop, Option, Some, None}
 use Rattle.digits.specs.declared.End.{End}
 use Rattle.digits.specs.declared.End.TheVariants.{Blank, Feed}
 use Rattle.digits.specs.declared.Taken.{Taken}
-use Rattle.digits.specs.declared.Taken.TheVariants.{Nothing, Word}
 
 -- the byte that ends a form: a blank or a line feed
 abbrev pub end_byte : End → ℕ
@@ -24,6 +23,6 @@ pub record Stands (form : ℕ → List ℕ) (text : List ℕ) (at end v next : �
 abbrev pub Nowhere : (ℕ → List ℕ) → List ℕ → ℕ → ℕ → Type 0
 Nowhere form text at end = (v : ℕ) (rest : List ℕ) → v < words → drop at text ≡ form v ++ (end ∷ rest) → ⊥
 
-pub data Takes (form : ℕ → List ℕ) (text : List ℕ) (at end : ℕ) : Taken → Type 0 where
-  nothing : Nowhere form text at end → Takes form text at end Nothing
-  word : {v next : ℕ} → Stands form text at end v next → Takes form text at end (Word v next)
+pub data Takes (form : ℕ → List ℕ) (text : List ℕ) (at end : ℕ) : Option (Taken ℕ) → Type 0 where
+  nothing : Nowhere form text at end → Takes form text at end None
+  word : {v next : ℕ} → Stands form text at end v next → Takes form text at end (Some (record { value = v; next = next }))

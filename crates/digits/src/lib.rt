@@ -1,30 +1,32 @@
 // Words as text: hex digits and decimal digits. A reader takes a word from a text exactly where its printed form stands, with the byte that
-// ends it. `inner` writes a word.
+// ends it. `inner` has the value of a digit, and writes a word.
 #![tactic(auto)]
 
 ghost use Rattle.std.specs.Prelude.{◌<◌, ◌≤◌, ◌^◌, ◌≡◌};
 ghost use Rattle.digits.specs.Digits.{hex_of, decimal_of};
-ghost use Rattle.digits.specs.inner.Run.{Run as Spelt, Value};
+ghost use Rattle.digits.specs.inner.Run.{Run as Spelt, DigitAt};
 ghost use Rattle.digits.specs.Taken.{end_byte, Takes};
 
 pub mod inner;
 
-// What a reader found: nothing, or a word and where the text goes on.
-#[derive(Drop)]
-pub enum Taken {
-    Nothing,
-    Word(u32, usize),
+use inner::value;
+
+// What was taken from a text, and where the text goes on.
+#[derive(Debug, Clone, Copy, PartialEq, Eq)]
+pub struct Taken<T> {
+    pub value: T,
+    pub next: usize,
 }
 
 // What ends a form: a blank or a line feed. Neither is a digit, so a form's end is seen.
-#[derive(Clone, Copy)]
+#[derive(Debug, Clone, Copy, PartialEq, Eq)]
 pub enum End {
     Blank,
     Feed,
 }
 
 // A run of digits: the number that it spells, and how many they are.
-#[derive(Drop)]
+#[derive(Clone, Copy)]
 struct Run {
     value: u64,
     count: usize,
@@ -35,103 +37,71 @@ pub fn byte(end: End) -> u8
     ensures { result ≡ end_byte end }
 {
     match end {
-        End::Blank => 32,
-        End::Feed => 10,
+        End::Blank => b' ',
+        End::Feed => b'\n',
     }
 }
 
-// The value of a digit, or 16.
-fn value(digit: u8) -> u64
-    ensures { Value digit result }
+// The digit at a place, where one of the base stands there.
+fn digit_at(text: &[u8], at: usize, base: u32) -> Option<u32>
+    requires { base ≤ 16 }
+    ensures { DigitAt text.now at base result }
 {
-    if digit < 48 {
-        return 16;
-    }
-    if digit < 58 {
-        return (digit - 48) as u64;
-    }
-    if digit < 65 {
-        return 16;
-    }
-    if digit < 71 {
-        return (digit - 55) as u64;
-    }
-    16
+    value(*text.get(at)?).filter(|digit| *digit < base)
 }
 
 // The run of digits from `at` on, and no more of them than `most`.
-fn run_at(text: &[u8], at: usize, base: u64, most: usize) -> Run
+fn run_at(text: &[u8], at: usize, base: u32, most: usize) -> Run
     requires { (0 < base) × (base ≤ 16) × (base ^ most ≤ 10000000000) }
     ensures { Spelt text.now at base most result.value result.count }
 {
-    let mut number: u64 = 0;
-    let mut count: usize = 0;
+    let mut value: u64 = 0;
     if text.len() <= at {
-        return Run { value: 0, count: 0 };
+        return Run { value, count: 0 };
     }
-    while count < most {
-        if text.len() - at <= count {
-            return Run {
-                value: number,
-                count,
-            };
-        }
-        let digit = value(text[at + count]);
-        if base <= digit {
-            return Run {
-                value: number,
-                count,
-            };
-        }
-        number = number * base + digit;
-        count += 1;
+    for count in 0..most {
+        let Some(digit) = digit_at(text, at + count, base) else {
+            return Run { value, count };
+        };
+        value = value * u64::from(base) + u64::from(digit);
     }
-    Run {
-        value: number,
-        count,
-    }
+    Run { value, count: most }
 }
 
 // Eight upper-case hex digits from `at` on, then the end.
-pub fn hex_at(text: &[u8], at: usize, end: End) -> Taken
+pub fn hex_at(text: &[u8], at: usize, end: End) -> Option<Taken<u32>>
     ensures { Takes hex_of text.now at (end_byte end) result }
 {
     let run = run_at(text, at, 16, 8);
     if run.count < 8 {
-        return Taken::Nothing;
+        return None;
     }
-    if text.len() - at <= 8 {
-        return Taken::Nothing;
+    if *text.get(at + 8)? != byte(end) {
+        return None;
     }
-    if text[at + 8] != byte(end) {
-        return Taken::Nothing;
-    }
-    Taken::Word(run.value as u32, at + 9)
+    Some(Taken {
+        value: run.value as u32,
+        next: at + 9,
+    })
 }
 
 // The decimal digits of a word, as few as hold it, from `at` on, then the end.
-pub fn decimal_at(text: &[u8], at: usize, end: End) -> Taken
+pub fn decimal_at(text: &[u8], at: usize, end: End) -> Option<Taken<u32>>
     ensures { Takes decimal_of text.now at (end_byte end) result }
 {
-    let run = run_at(text, at, 10, 10);
-    let count = run.count;
+    let Run { value, count } = run_at(text, at, 10, 10);
     if count == 0 {
-        return Taken::Nothing;
+        return None;
     }
-    if text.len() - at <= count {
-        return Taken::Nothing;
-    }
-    if text[at + count] != byte(end) {
-        return Taken::Nothing;
+    if *text.get(at + count)? != byte(end) {
+        return None;
     }
     let is_long = 1 < count;
-    if is_long {
-        if text[at] == b'0' {
-            return Taken::Nothing;
-        }
+    if is_long && text[at] == b'0' {
+        return None;
     }
-    if 4294967295 < run.value {
-        return Taken::Nothing;
-    }
-    Taken::Word(run.value as u32, at + count + 1)
+    Some(Taken {
+        value: u32::try_from(value).ok()?,
+        next: at + count + 1,
+    })
 }

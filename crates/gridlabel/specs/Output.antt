@@ -2,14 +2,11 @@
 use Rattle.std.specs.Prelude.{List, ℕ, Option, IfSome}
 use Rattle.std.specs.Io.KnownBytes.{Appends}
 use Rattle.gridtext.specs.Gridlabel.{Answers}
-use Rattle.streams.specs.declared.Text.{Text}
-use Rattle.streams.specs.declared.Text.TheVariants.{Read, Failed}
 use Rattle.gridlabel.specs.Input.{AnswersInput}
 
--- of a text that was read, the answer to the input; where reading failed nothing is printed
-abbrev pub Prints : Text → (list : List ℕ) → (old new : Option (List ℕ)) → Type 0
-Prints (Read n) list old new = (answer : List ℕ) × AnswersInput list n answer × Appends old new answer
-Prints Failed list old new = ⊥
+-- of n bytes that were read, the answer to the input
+abbrev pub Prints : ℕ → (list : List ℕ) → (old new : Option (List ℕ)) → Type 0
+Prints n list old new = (answer : List ℕ) × AnswersInput list n answer × Appends old new answer
 
 -- the answer to all of the input, where that is known
 abbrev pub AnswersAll : (input old new : Option (List ℕ)) → Type 0

@@ -1,29 +1,19 @@
 // A text read whole from a reader, and a text written whole. What a descriptor gives or takes no contract can say; where
 // a reader's bytes are known, or a writer's, as over memory, the contracts say what becomes of them. `outcome` fixes what is made of each
-// call's answer. Where a call fails, errno is its error's number, and 0 where the system gave it none.
-ghost use Rattle.std.specs.Prelude.{true, ◌≡◌, length};
+// call's answer. Where a call fails, the error is that of its errno, which is 0 where the system gave it none.
+ghost use Rattle.std.specs.Prelude.{◌≡◌, ◌≤◌, ◌<◌, ◌^◌, length, Ok, IfOk, OnOk};
+ghost use Rattle.std.specs.Io.{ReadsAtMost};
 ghost use Rattle.std.specs.Io.KnownBytes.{Appends};
-ghost use Rattle.streams.specs.Moves.{is_interrupted, MovedWithin, ReadBy, ReadFront, WholeRead, WrittenBy};
+ghost use Rattle.streams.specs.Moves.{CameTo, MovedWithin, ReadBy, WholeRead, WrittenBy};
 
-use crate::{EINTR, Moved, Text, ended, outcome};
-use std::io::{Error, ErrorKind, Read, Write};
+use crate::{EINTR, Moved, ended, outcome};
+use std::io::{Error, ErrorKind, Read, Result, Write};
 
-// How often a call is begun again that signals cut off. No run meets so many.
+// How often a call is made that signals cut off. No run meets so many.
 const MOST_TRIES: u32 = 0xFFFF_FFFF;
 
 // The most bytes that one call is to move, as Linux has it.
 const MOST_MOVED: usize = 0x7FFF_F000;
-
-fn is_interrupted(came: Moved) -> bool
-    ensures { result ≡ is_interrupted came }
-{
-    match came {
-        Moved::Interrupted => true,
-        Moved::Some(_) => false,
-        Moved::Nothing => false,
-        Moved::Failed => false,
-    }
-}
 
 // The error's number, as errno has it.
 fn number(error: Error) -> i32 {
@@ -36,97 +26,80 @@ fn number(error: Error) -> i32 {
     0
 }
 
-fn read_once<R: Read>(reader: &mut R, part: &mut [u8], errno: &mut i32) -> Moved
+// What a call on a part came to, by the answer of the standard library.
+fn came_to(answer: Result<usize>, part: &[u8]) -> Moved
+    requires { IfOk answer (λ n. (n ≤ length part.now) × (n < 2 ^ 63)) }
+    ensures { CameTo answer result }
+{
+    match answer {
+        Ok(n) => outcome(n as isize, 0, part),
+        Err(e) => outcome(-1, number(e), part),
+    }
+}
+
+// One read, made again where a signal cuts it off.
+fn read_some<R: Read>(reader: &mut R, part: &mut [u8]) -> Moved
     ensures within { MovedWithin (length part.old) result }
     ensures bytes { ReadBy result (R.remaining reader.old) (R.remaining reader.new) part.new }
 {
     let most = part.len().min(MOST_MOVED);
-    match reader.read(&mut part[..most]) {
-        Ok(n) => outcome(n as isize, 0, part),
-        Err(e) => {
-            *errno = number(e);
-            outcome(-1, *errno, part)
-        }
+    for _ in 0..MOST_TRIES {
+        let answer = reader.read(&mut part[..most]);
+        let came = came_to(answer, part);
+        let Moved::Interrupted = came else {
+            return came;
+        };
     }
+    Moved::Interrupted
 }
 
-fn write_once<W: Write>(writer: &mut W, part: &[u8], errno: &mut i32) -> Moved
+// One write, likewise. Two loops and not one over a closure: a caller is told nothing of what a closure leaves in its reader or part, which
+// `bytes` promises of both, each in its way.
+fn write_some<W: Write>(writer: &mut W, part: &[u8]) -> Moved
     ensures within { MovedWithin (length part.now) result }
     ensures bytes { WrittenBy result (W.contents writer.old) (W.contents writer.new) part.now }
 {
     let most = part.len().min(MOST_MOVED);
-    match writer.write(&part[..most]) {
-        Ok(n) => outcome(n as isize, 0, part),
-        Err(e) => {
-            *errno = number(e);
-            outcome(-1, *errno, part)
-        }
-    }
-}
-
-// One read, begun again where a signal cuts it off.
-fn read_some<R: Read>(reader: &mut R, part: &mut [u8], errno: &mut i32) -> Moved
-    ensures within { MovedWithin (length part.old) result }
-    ensures bytes { ReadBy result (R.remaining reader.old) (R.remaining reader.new) part.new }
-{
-    let mut tries = MOST_TRIES;
-    while tries > 0 {
-        let came = read_once(reader, part, errno);
-        if !is_interrupted(came) {
+    for _ in 0..MOST_TRIES {
+        let came = came_to(writer.write(&part[..most]), part);
+        let Moved::Interrupted = came else {
             return came;
-        }
-        tries -= 1;
+        };
     }
-    Moved::Failed
+    Moved::Interrupted
 }
 
-// One write, likewise.
-fn write_some<W: Write>(writer: &mut W, part: &[u8], errno: &mut i32) -> Moved
-    ensures within { MovedWithin (length part.now) result }
-    ensures bytes { WrittenBy result (W.contents writer.old) (W.contents writer.new) part.now }
-{
-    let mut tries = MOST_TRIES;
-    while tries > 0 {
-        let came = write_once(writer, part, errno);
-        if !is_interrupted(came) {
-            return came;
-        }
-        tries -= 1;
-    }
-    Moved::Failed
-}
-
-// Reads until the input ends or the list is full. A read that fails is a failure, however much came before it.
-pub fn read_whole<R: Read>(reader: &mut R, list: &mut [u8], errno: &mut i32) -> Text
-    ensures front { ReadFront result list.new }
+// Reads until the input ends or the list is full; answers how many bytes that is. A read that fails is a failure, however much came before it.
+pub fn read_whole<R: Read>(reader: &mut R, list: &mut [u8]) -> Result<usize>
+    ensures front { ReadsAtMost result list.new }
     ensures bytes { WholeRead result (R.remaining reader.old) (R.remaining reader.new) list.new }
 {
     let mut at = 0;
     while at < list.len() {
-        let came = read_some(reader, &mut list[at..], errno);
+        let came = read_some(reader, &mut list[at..]);
         let Moved::Some(n) = came else {
-            return ended(came, at);
+            return ended(came, at).map_err(Error::from_raw_os_error);
         };
         at += n;
     }
-    Text::Read(at)
+    Ok(at)
 }
 
-// Writes all of the text, or answers false, when some of it may have been written. A write that takes a part is followed by one of the rest.
-// Where there is nothing to write the answer is true; else the writer's answers decide it.
-pub fn write_whole<W: Write>(writer: &mut W, text: &[u8], errno: &mut i32) -> bool
-    ensures nothing { length text.now ≡ 0 → result ≡ true }
-    ensures bytes { result ≡ true → Appends (W.contents writer.old) (W.contents writer.new) text.now }
+// Writes all of the text, or fails, when some of it may have been written. A write that takes a part is followed by one of the rest.
+// Where there is nothing to write it does not fail; else the writer's answers decide it. The library's `write_all` would be shorter, but its
+// body is not ours: must-fail/nothing_taken_for_the_rest has to stand in this one.
+pub fn write_whole<W: Write>(writer: &mut W, text: &[u8]) -> Result<()>
+    ensures nothing { length text.now ≡ 0 → result ≡ Ok tt }
+    ensures bytes { OnOk result (Appends (W.contents writer.old) (W.contents writer.new) text.now) }
 {
     let mut at = 0;
     while at < text.len() {
-        let came = write_some(writer, &text[at..], errno);
-        match came {
+        match write_some(writer, &text[at..]) {
             Moved::Some(n) => at += n,
-            Moved::Nothing => return false,
-            Moved::Interrupted => return false,
-            Moved::Failed => return false,
+            Moved::Nothing => return Err(Error::from_raw_os_error(0)),
+            Moved::Interrupted => return Err(Error::from_raw_os_error(EINTR)),
+            Moved::Failed(errno) => return Err(Error::from_raw_os_error(errno)),
         }
     }
-    true
+    Ok(())
 }

@@ -10,20 +10,14 @@ pub mod inner;
 // errno of a call that a signal cut off.
 const EINTR: i32 = 4;
 
-// What one call came to: so many bytes moved, none, cut off by a signal before the first, or failed.
-#[derive(Clone, Copy)]
+// What one call came to: so many bytes moved, none, cut off by a signal before the first, or failed with this errno. The end of an input has
+// a name of its own here, beside a count and an error.
+#[derive(Debug, Clone, Copy, PartialEq, Eq)]
 pub enum Moved {
     Some(usize),
     Nothing,
     Interrupted,
-    Failed,
-}
-
-// What a reader came to: so many bytes at the front of its list, which are the whole input or fill the list; or it failed, and errno says why.
-#[derive(Clone, Copy)]
-pub enum Text {
-    Read(usize),
-    Failed,
+    Failed(i32),
 }
 
 // What a call came to that was to move a part's bytes, by its answer and by errno.
@@ -34,7 +28,7 @@ pub fn outcome(got: isize, error: i32, part: &[u8]) -> Moved
         if error == EINTR {
             return Moved::Interrupted;
         }
-        return Moved::Failed;
+        return Moved::Failed(error);
     }
     let n = io::count(got, part);
     if n == 0 {
@@ -43,16 +37,16 @@ pub fn outcome(got: isize, error: i32, part: &[u8]) -> Moved
     Moved::Some(n)
 }
 
-// What a reader came to that has so many bytes, by a call that moved none: the whole where the input ended, and else a failure, however much
-// came before it.
+// What a reader came to that has so many bytes, by a call that moved none: the whole where the input ended, and else a failure, by its errno,
+// however much came before it.
 #[tactic(auto, unfolding(crate::specs::Moves::ended_by))]
-pub fn ended(came: Moved, at: usize) -> Text
+pub fn ended(came: Moved, at: usize) -> Result<usize, i32>
     ensures { result ≡ ended_by came at }
 {
     match came {
-        Moved::Nothing => Text::Read(at),
-        Moved::Some(_) => Text::Failed,
-        Moved::Interrupted => Text::Failed,
-        Moved::Failed => Text::Failed,
+        Moved::Nothing => Ok(at),
+        Moved::Some(_) => Err(0),
+        Moved::Interrupted => Err(EINTR),
+        Moved::Failed(errno) => Err(errno),
     }
 }

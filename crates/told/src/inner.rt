@@ -1,28 +1,27 @@
 // The three lists of a call that labels, from a case to the fronts of arrays, and after the call as lines. What goes to standard output no
 // contract can say; the functions that write answer how much their lines tell. Where the writer fails, some of the lines may be written.
-ghost use Rattle.std.specs.Prelude.{◌≡◌, ◌≤◌, length, IfOk, OnOk};
+ghost use Rattle.std.specs.Prelude.{◌≡◌, length, IfOk, OnOk};
 ghost use Rattle.std.specs.Io.KnownBytes.{Appends};
 ghost use Rattle.vectors.specs.inner.Lines.{runs_of};
-ghost use Rattle.vectors.specs.inner.Lists.{Front, Onward};
+ghost use Rattle.vectors.specs.inner.Lists.{Front};
 ghost use Rattle.told.specs.inner.Lending.{Lends};
 ghost use Rattle.told.specs.inner.Answer.{answer_line};
 
 use std::io::{Result, Write};
-use vectors::inner::list::fill;
 use vectors::inner::runs::{write_counts, write_refusal, write_runs};
+use vectors::inner::words::Words;
 use walk::Labelled;
 
-// The lengths of the lists, and where the text goes on.
-#[derive(Drop)]
+// The lengths of the lists.
+#[derive(Debug, Clone, Copy, PartialEq, Eq)]
 pub struct Lent {
     pub work: usize,
     pub components: usize,
     pub entries: usize,
-    pub next: usize,
 }
 
 // How many bytes the answer's line has, and how many runs each list's.
-#[derive(Drop)]
+#[derive(Debug, Clone, Copy, PartialEq, Eq)]
 pub struct Lines {
     pub answer: usize,
     pub work: usize,
@@ -30,27 +29,21 @@ pub struct Lines {
     pub entries: usize,
 }
 
-// Reads the three lists, which stand one after the other in the text, to the fronts of the arrays. The caller has the place from the list
-// before.
+// Reads the three lists, which stand one after the other in the text, to the fronts of the arrays.
 pub fn lend(
-    text: &[u8],
-    at: usize,
+    words: &mut Words<'_>,
     work: &mut [u32],
     components: &mut [u32],
     entries: &mut [u32],
 ) -> Lent
-    requires { at ≤ length text.now }
-    ensures is { Lends text.now at (record { work = work.old; components = components.old; entries = entries.old }) (record { work = work.new; components = components.new; entries = entries.new }) result }
-    ensures within { Front result.work work.new × Front result.components components.new × Front result.entries entries.new × Onward text.now at result.next }
+    ensures is { Lends words.old.text.now words.old.at (record { work = work.old; components = components.old; entries = entries.old }) (record { work = work.new; components = components.new; entries = entries.new }) result words.new.at }
+    ensures text { words.new.text.now ≡ words.old.text.now }
+    ensures within { Front result.work work.new × Front result.components components.new × Front result.entries entries.new }
 {
-    let in_work = fill(text, at, work);
-    let in_components = fill(text, in_work.next, components);
-    let in_entries = fill(text, in_components.next, entries);
     Lent {
-        work: in_work.length,
-        components: in_components.length,
-        entries: in_entries.length,
-        next: in_entries.next,
+        work: words.fill(work),
+        components: words.fill(components),
+        entries: words.fill(entries),
     }
 }
 
@@ -74,14 +67,10 @@ pub fn write_told<W: Write>(
 ) -> Result<Lines>
     ensures { IfOk result (λ lines. (lines.answer ≡ length (answer_line answer)) × (lines.work ≡ runs_of work.now) × (lines.components ≡ runs_of components.now) × (lines.entries ≡ runs_of entries.now)) }
 {
-    let line = write_answer(out, answer)?;
-    let in_work = write_runs(out, work)?;
-    let in_components = write_runs(out, components)?;
-    let in_entries = write_runs(out, entries)?;
     Ok(Lines {
-        answer: line,
-        work: in_work,
-        components: in_components,
-        entries: in_entries,
+        answer: write_answer(out, answer)?,
+        work: write_runs(out, work)?,
+        components: write_runs(out, components)?,
+        entries: write_runs(out, entries)?,
     })
 }

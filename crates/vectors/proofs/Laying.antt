@@ -1,5 +1,5 @@
 -- A loop that lays elements from the front: one more store lays one more. Assumes nothing.
-use mathlib.Core.Path.{◌≡◌, refl, sym, ◌∙◌, subst}
+use mathlib.Core.Path.{◌≡◌, sym, ◌∙◌, subst}
 use mathlib.Core.List.{List}
 use Prim.Native.Nat.{ℕ, ◌+◌, ◌<◌}
 use native.Mathlib.Decide.{ℕ_discrete, dec_lt}
@@ -9,9 +9,6 @@ use lib.Seq.{ext_get_or, get_or-set_same, get_or-set_other}
 use Rattle.vectors.specs.inner.Lists.{Laid}
 
 module _ {A : Type 0} {blank : A} where
-  pub laid_none : (xs : List A) (f : ℕ → A) → Laid blank xs xs 0 f
-  laid_none xs f = record { len = refl; laid = λ k h. absurd (omega arith); rest = λ k h. refl }
-
   pub laid_more : {xs ys : List A} {n : ℕ} {f : ℕ → A} (v : A) → Laid blank xs ys n f → n < length ys → v ≡ f n → Laid blank xs (set ys n v) (n + 1) f
   laid_more {xs} {ys} {n} {f} v q h e = record {
     len = length-set ys n v ∙ q.len;
@@ -22,14 +19,6 @@ module _ {A : Type 0} {blank : A} where
       go : (k : ℕ) → k < n + 1 → Dec (k ≡ n) → get_or (set ys n v) k blank ≡ f k
       go k b (yes s) = subst (λ (j : ℕ). get_or (set ys n v) j blank ≡ f j) (sym s) (get_or-set_same ys n v blank h ∙ e)
       go k b (no s) = get_or-set_other ys n k v blank s ∙ q.laid k (omega (arith, s))
-
-  -- what a loop has laid is what is to be laid
-  pub laid_all : {xs ys : List A} {i n : ℕ} {f g : ℕ → A} → Laid blank xs ys i f → i ≡ n → ((k : ℕ) → f k ≡ g k) → Laid blank xs ys n g
-  laid_all {xs} {ys} {i} {n} {f} {g} q e s = record {
-    len = q.len;
-    laid = λ k b. q.laid k (omega arith) ∙ s k;
-    rest = λ k b. q.rest k (omega arith);
-  }
 
   -- what is laid leaves one list
   pub determined : {xs ys zs : List A} {n : ℕ} {f : ℕ → A} → Laid blank xs ys n f → Laid blank xs zs n f → ys ≡ zs

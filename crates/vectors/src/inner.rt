@@ -1,18 +1,20 @@
 // A file of vectors, read whole; `list` takes lists from it, and `runs` writes them.
-ghost use Rattle.std.specs.Prelude.{OnOk};
+ghost use Rattle.std.specs.Prelude.{◌≡◌, ◌<◌, length, Ok, OnOk};
 ghost use Rattle.std.specs.Io.{ReadsAtMost};
 ghost use Rattle.std.specs.Io.KnownBytes.{Appends};
 ghost use Rattle.vectors.specs.inner.Lines.{heading};
 
 pub mod list;
 pub mod runs;
+pub mod words;
 
+use std::env;
 use std::fs::File;
 use std::io::{Error, ErrorKind, Result, Write};
-use std::rt::{Env, Files};
+use std::rt::{Env, Files, HostRuntime, Stdout};
 use std::str::from_utf8;
-use streams::Text;
 use streams::inner::read_whole;
+use words::Words;
 
 // Writes a file's heading and reads the file to the start of text; answers how many bytes that is. It fails where the heading is not written,
 // or the file does not open or is not read; the heading, or some of it, may then be written. No contract can speak of what a file holds, nor
@@ -28,11 +30,7 @@ pub fn load<R: Files, W: Write>(rt: &R, out: &mut W, name: &[u8], text: &mut [u8
         return Err(Error::from(ErrorKind::InvalidInput));
     };
     let mut file = File::open(rt, path)?;
-    let mut errno = 0;
-    match read_whole(&mut file, text, &mut errno) {
-        Text::Read(n) => Ok(n),
-        Text::Failed => Err(Error::from_raw_os_error(errno)),
-    }
+    read_whole(&mut file, text)
 }
 
 // The same for the file that argument i names.
@@ -49,4 +47,50 @@ pub fn load_argument<R: Env + Files, W: Write>(
         return Err(Error::from(ErrorKind::InvalidInput));
     };
     load(rt, out, &name[..length], text)
+}
+
+fn file<F: Fn(&mut Stdout, &[u8]) -> Result<()>>(
+    rt: &HostRuntime,
+    out: &mut Stdout,
+    i: usize,
+    replay: &F,
+) -> Result<()>
+    requires { F.IsAlwaysCallable replay.now }
+{
+    let mut text = [0u8; 65536];
+    let n = load_argument(rt, out, i, &mut text)?;
+    replay(out, &text[..n])
+}
+
+// A whole program: what `replay` writes of each file that an argument names, behind the file's heading.
+pub fn files<F: Fn(&mut Stdout, &[u8]) -> Result<()>>(rt: &HostRuntime, replay: F) -> Result<()>
+    requires { F.IsAlwaysCallable replay }
+{
+    let mut out = rt.stdout();
+    for i in 1..env::args(rt)?.len() {
+        file(rt, &mut out, i, &replay)?;
+    }
+    Ok(())
+}
+
+// What `replay` writes of each case of a text, by its kind. The text ends at its end, or at a kind that `replay` does not know and answers
+// with false; it has fewer cases than bytes. A text without a word has none.
+pub fn cases<W: Write, F: Fn(&mut W, u32, &mut Words<'_>) -> Result<bool>>(
+    out: &mut W,
+    text: &[u8],
+    replay: F,
+) -> Result<()>
+    requires { F.IsAlwaysCallable replay }
+    ensures { length text.now < 9 → (result ≡ Ok tt) × (out.new ≡ out.old) }
+{
+    let mut words = Words::new(text);
+    for _ in 0..text.len() {
+        let Some(kind) = words.kind() else {
+            return Ok(());
+        };
+        if !replay(out, kind, &mut words)? {
+            return Ok(());
+        }
+    }
+    Ok(())
 }

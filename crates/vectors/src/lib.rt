@@ -14,19 +14,7 @@ pub mod inner;
 fn value(digit: u8) -> u32
     ensures { (result ≡ value_of digit) × (result < 16) }
 {
-    if digit < 48 {
-        return 0;
-    }
-    if digit < 58 {
-        return (digit - 48) as u32;
-    }
-    if digit < 65 {
-        return 0;
-    }
-    if digit < 71 {
-        return (digit - 55) as u32;
-    }
-    0
+    digits::inner::value(digit).unwrap_or(0)
 }
 
 fn four_at(text: &[u8], at: usize) -> u32
@@ -41,10 +29,7 @@ fn four_at(text: &[u8], at: usize) -> u32
 pub fn word_at(text: &[u8], at: usize) -> u32
     ensures { result ≡ word_at text.now at }
 {
-    if text.len() < 8 {
-        return 0;
-    }
-    if text.len() - 8 < at {
+    if text.len() < 8 || text.len() - 8 < at {
         return 0;
     }
     four_at(text, at) * 65536 + four_at(text, at + 4)
@@ -55,9 +40,9 @@ fn digit(value: u32) -> u8
     ensures { result ≡ digit_of value }
 {
     if value < 10 {
-        value as u8 + 48
+        b'0' + value as u8
     } else {
-        value as u8 + 55
+        b'A' + (value - 10) as u8
     }
 }
 
@@ -81,11 +66,9 @@ pub fn hex(word: u32) -> [u8; 8]
 pub(crate) fn field(word: u32) -> [u8; 9]
     ensures { (result ≡ field_of word) × (9 ≡ length result) }
 {
-    let digits = hex(word);
-    [
-        b' ', digits[0], digits[1], digits[2], digits[3], digits[4], digits[5], digits[6],
-        digits[7],
-    ]
+    let mut field = [b' '; 9];
+    field[1..].copy_from_slice(&hex(word));
+    field
 }
 
 // The line that tells a refusal, up to what stands beside the place: its row and its place, each as eight digits.
@@ -94,9 +77,8 @@ pub fn refusal_front(why: Refusal) -> [u8; 25]
 {
     let row = hex(refusal::number(why));
     let place = hex(refusal::place(why));
-    [
-        b'r', b'e', b'f', b'u', b's', b'e', b'd', b' ', row[0], row[1], row[2], row[3], row[4],
-        row[5], row[6], row[7], b' ', place[0], place[1], place[2], place[3], place[4], place[5],
-        place[6], place[7],
-    ]
+    let mut front = *b"refused 00000000 00000000";
+    front[8..16].copy_from_slice(&row);
+    front[17..].copy_from_slice(&place);
+    front
 }

@@ -1,7 +1,6 @@
--- `run_at` finds the run. The loop's invariant: what was passed are digits, which spell the number so far; the measure is how many more it
--- may take.
+-- `run_at` finds the run: what it passes are digits, and it stops where no digit stands, or at as many as asked.
 use native.Mathlib.Omega.{arith}
-use Rattle.digits.proofs.Numerals.{spelt_none, spelt_nowhere, spelt_run, spelt_small, spelt_more}
+use Rattle.digits.proofs.Numerals.{spelt_none, spelt_nowhere, spelt_small, spelt_more}
 use Rattle.digits.proofs.run_at.Goals as goal
 
 pub returns-then-text-at : goal.returns-then-text-at
@@ -10,22 +9,17 @@ returns-then-text-at c = let a = c.args in spelt_nowhere a.text.now a.at a.base 
 pub loop-count-init : goal.loop-count-init
 loop-count-init c = let a = c.args in spelt_none a.text.now a.at a.base a.most (omega arith)
 
-pub returns-then-text-at-2 : goal.returns-then-text-at-2
-returns-then-text-at-2 c = spelt_run c.loop-count.invariant (λ l h. absurd (omega arith))
+pub overflow_mul-value : goal.overflow_mul-value
+overflow_mul-value c =
+    let small = spelt_small c.loop-count.invariant c.in-Some.digit (omega arith) c.in-Some.ensures.1 c.requires.2 in
+    rw c.from.ensures (omega arith)
 
-pub returns-then-base-digit : goal.returns-then-base-digit
-returns-then-base-digit c =
-    spelt_run c.loop-count.invariant
-    (λ l h v b e. let o = c.value-digit.ensures.only v (omega (arith, c.requires)) e in omega arith)
-
-pub overflow_mul-number : goal.overflow_mul-number
-overflow_mul-number c = omega (arith, spelt_small c.loop-count.invariant c.value-digit.result (omega arith) (omega arith) c.requires.2)
-
-pub overflow_add-number : goal.overflow_add-number
-overflow_add-number c = omega (arith, spelt_small c.loop-count.invariant c.value-digit.result (omega arith) (omega arith) c.requires.2)
+pub overflow_add-value : goal.overflow_add-value
+overflow_add-value c =
+    let small = spelt_small c.loop-count.invariant c.in-Some.digit (omega arith) c.in-Some.ensures.1 c.requires.2 in
+    rw (c.from.ensures, c.from-in-loop-count.ensures) (omega arith)
 
 pub loop-count-preserved : goal.loop-count-preserved
-loop-count-preserved c = spelt_more c.loop-count.invariant c.value-digit.result (omega arith) (omega arith) (omega arith) (c.value-digit.ensures.of (omega (arith, c.requires)))
-
-pub returns : goal.returns
-returns c = spelt_run c.loop-count.invariant (λ l h. absurd (omega arith))
+loop-count-preserved c =
+    let digit = c.in-Some.ensures in
+    rw (c.from.ensures, c.from-in-loop-count.ensures) (spelt_more c.loop-count.invariant c.in-Some.digit (omega arith) digit.1 digit.0 digit.2)

@@ -19,8 +19,8 @@ second_at text at arrays = next_at text at (length arrays.work)
 abbrev pub third_at : List ℕ → ℕ → Arrays → ℕ
 third_at text at arrays = next_at text (second_at text at arrays) (length arrays.components)
 
-pub record Lends (text : List ℕ) (at : ℕ) (before after : Arrays) (lent : Lent) : Type 0 where
+pub record Lends (text : List ℕ) (at : ℕ) (before after : Arrays) (lent : Lent) (next : ℕ) : Type 0 where
   pub work : Reads text at before.work after.work lent.work
   pub components : Reads text (second_at text at before) before.components after.components lent.components
   pub entries : Reads text (third_at text at before) before.entries after.entries lent.entries
-  pub next : lent.next ≡ next_at text (third_at text at before) (length before.entries)
+  pub on : next ≡ next_at text (third_at text at before) (length before.entries)

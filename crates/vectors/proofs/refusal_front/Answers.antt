@@ -5,4 +5,4 @@ use Rattle.vectors.proofs.refusal_front.Goals as goal
 
 pub returns : goal.returns
 unfolding refusal_front
-returns c = (rw (c.hex-place.ensures.0, c.place.ensures, c.hex-row.ensures.0, c.number.ensures), search rules)
+returns c = (simp (c.copy_from_slice-2.ensures.after, c.hex-place.ensures.0, c.place.ensures, c.copy_from_slice.ensures.after, c.hex-row.ensures.0, c.number.ensures), search rules)

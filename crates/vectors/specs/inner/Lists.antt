@@ -1,6 +1,7 @@
 -- A list of a case: its length, how many words are given, a fill, then the words given; each word takes nine bytes. A list that is
 -- longer than its array is cut, and the fill stands for words that the text ends before.
-use Rattle.std.specs.Prelude.{cond, List, ◌≡◌, ℕ, ◌+◌, ◌*◌, ◌-◌, ◌/◌, ◌%◌, ◌≤◌, ◌<◌, ltb, length, get_or, take}
+use Rattle.std.specs.Prelude.{cond, List, ◌≡◌, ℕ, ◌+◌, ◌*◌, ◌-◌, ◌/◌, ◌%◌, ◌≤◌, ◌<◌, ltb, length, get_or, min, take, drop, Option, Some, None}
+use Rattle.std.specs.Borrow.{Bor}
 use Rattle.std.proofs.Common.{sym, length-take-le}
 use Rattle.vectors.specs.Hex.{word_at}
 
@@ -8,15 +9,12 @@ use Rattle.vectors.specs.Hex.{word_at}
 unfoldable pub after_of : List ℕ → ℕ → ℕ → ℕ
 after_of text at count = cond (ltb ((length text - at) / 9) count) (length text) (at + 9 * count)
 
-abbrev pub least_of : ℕ → ℕ → ℕ
-least_of a b = cond (ltb a b) a b
-
 -- how long the list at `at` is in an array of `room`, how many of its words are given, and where the text goes on
 unfoldable pub length_at : List ℕ → ℕ → ℕ → ℕ
-length_at text at room = least_of (word_at text at) room
+length_at text at room = min (word_at text at) room
 
 unfoldable pub given_at : List ℕ → ℕ → ℕ → ℕ
-given_at text at room = least_of (least_of (word_at text (at + 9)) (length_at text at room)) ((length text - after_of text at 3) / 9)
+given_at text at room = min (min (word_at text (at + 9)) (length_at text at room)) ((length text - after_of text at 3) / 9)
 
 abbrev pub next_at : List ℕ → ℕ → ℕ → ℕ
 next_at text at room = after_of text at 3 + 9 * given_at text at room
@@ -46,6 +44,12 @@ Front n xs = (n ≤ length xs) × (n ≡ length (take n xs))
 pub front : {A : Type 0} (n : ℕ) (xs : List A) → n ≤ length xs → Front n xs
 front n xs h = (h, sym (length-take-le n xs h))
 
--- `next` stands at or after `at`, in the text or at its end
-abbrev pub Onward : List ℕ → ℕ → ℕ → Type 0
-Onward text at next = (at ≤ next) × (next ≤ length text)
+-- the kind of a case: the word at a place, where nine bytes are left, and the place goes on behind them
+abbrev pub KindAt : List ℕ → (old new : ℕ) → Option ℕ → Type 0
+KindAt text old new (Some kind) = (9 ≤ length text - old) × (kind ≡ word_at text old) × (new ≡ old + 9)
+KindAt text old new None = (length text - old < 9) × (new ≡ old)
+
+-- so many bytes at a place, where they and one more are left, and the place goes on behind that
+abbrev pub BytesAt : List ℕ → (old size new : ℕ) → Option (Bor (List ℕ)) → Type 0
+BytesAt text old size new (Some bytes) = (size < length text - old) × (bytes.now ≡ take size (drop old text)) × (new ≡ old + size + 1)
+BytesAt text old size new None = (length text - old ≤ size) × (new ≡ old)

@@ -41,29 +41,19 @@ fn run_end(list: &[u32], from: usize) -> usize
     ensures { Run list.now from result }
 {
     let word = list[from];
-    let mut i = from + 1;
-    while i < list.len() {
+    for i in from + 1..list.len() {
         if list[i] != word {
             return i;
         }
-        i += 1;
     }
-    i
-}
-
-fn write_number<W: Write>(out: &mut W, n: u64) -> Result<()> {
-    let mut text = [0u8; 20];
-    let places = io::decimal(n, &mut text);
-    out.write_all(&text[..places])
+    list.len()
 }
 
 fn write_run<W: Write>(out: &mut W, count: usize, word: u32, first: bool) -> Result<()> {
     if !first {
         out.write_all(b" ")?;
     }
-    write_number(out, count as u64)?;
-    out.write_all(b"*")?;
-    write_number(out, word as u64)
+    write!(out, "{count}*{word}")
 }
 
 // How many runs the line tells.

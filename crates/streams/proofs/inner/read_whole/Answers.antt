@@ -1,9 +1,7 @@
 -- What ends a reader leaves what it has at the front of the list.
 use Rattle.std.proofs.Common.{◌≡◌, ◌-◌, length, arith, rules, ◌∙◌}
 use borrow.Rule.Slice.PartMut.{mid_len, same_len_mid}
-use Rattle.io.proofs.Counting.{prefix_len_of_le}
-use Rattle.streams.proofs.Outcomes.{front_ended}
-use Rattle.streams.proofs.Known.{whole_ended, more_read}
+use Rattle.streams.proofs.Known.{ended_reader, mapped, more_read}
 use Rattle.streams.proofs.inner.read_whole.Goals as goal
 
 pub loop-at-preserved : goal.loop-at-preserved
@@ -21,10 +19,5 @@ returns-in_default g c =
     let list = c.loop-at.list in
     let long : length c.read_some-came.new.part ≡ length list - at = c.read_some-came.auto.part ∙ mid_len at (length list) list (omega arith) in
     let same = same_len_mid at (length list - at) list c.read_some-came.new.part c.read_some-came.auto.part in
-    record {
-      front = rw c.ended.ensures (front_ended _ _ _ (omega (arith, same)));
-      bytes = rw c.ended.ensures (whole_ended _ _ _ _ _ _ _ _ (omega arith) c.loop-at.invariant.2 c.read_some-came.ensures.bytes (omega (arith, long)));
-    }
-
-pub returns : goal.returns
-returns g c = record { front = prefix_len_of_le _ _ (omega arith); bytes = (c.loop-at.invariant.2, λ h. absurd (omega arith)) }
+    let whole = mapped _ _ _ _ _ _ (rw c.ended.ensures at c.map_err.ensures.cases) (ended_reader _ _ _ _ at _ list _ (omega arith) c.loop-at.invariant.2 c.read_some-came.ensures.bytes (omega (arith, long)) same) in
+    record { front = whole.0; bytes = whole.1 }

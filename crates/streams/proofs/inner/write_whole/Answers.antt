@@ -1,6 +1,5 @@
 -- Each turn appends a part of the text, and the last leaves none to write.
-use Rattle.std.proofs.Common.{◌≤◌, ◌+◌, length, arith, refl, subst, take_all}
-use Rattle.std.specs.Io.KnownBytes.{Appends}
+use Rattle.std.proofs.Common.{◌≤◌, ◌+◌, length, arith, refl}
 use borrow.Rule.Slice.PartMut.{mid_len}
 use Rattle.streams.proofs.Known.{more_written}
 use Rattle.streams.proofs.inner.write_whole.Goals as goal
@@ -13,6 +12,3 @@ loop-at-preserved g c =
     let long = mid_len at (length text) text (omega arith) in
     let within : at + c.in-Some.n ≤ length text = omega (arith, few, long) in
     (within, more_written _ _ _ at _ c.in-Some.n text within refl c.loop-at.invariant.1 c.in-Some.ensures.bytes)
-
-pub returns-clause-bytes : goal.returns-clause-bytes
-returns-clause-bytes g c = λ e. subst (Appends _ _) (take_all c.loop-at.at c.args.text.now (omega arith)) c.loop-at.invariant.1
