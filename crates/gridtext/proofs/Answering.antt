@@ -1,19 +1,20 @@
 -- From the call to the answer's text: what the call allows of a text's frame is `Labels`, since no list is short; what was labelled can be
 -- printed; and a text printed at the front of the list is the answer. Assumes nothing.
-use mathlib.Core.Path.{◌≡◌, refl, sym, ◌∙◌, subst}
+use Rattle.std.specs.Prelude.{Result}
+use Rattle.walk.specs.Call.{wrote}
+use mathlib.Core.Path.{◌≡◌, refl, sym, ◌∙◌, subst, ap}
 use mathlib.Core.List.{List}
 use Rattle.std.specs.Prelude.{Ok, Err}
 use Prim.Native.Nat.{ℕ, ◌*◌, ◌≤◌, ◌<◌}
 use native.Mathlib.Omega.{arith}
 use lib.ListN.{length}
 use lib.Seq.{length-take-le}
-use Rattle.refusal.specs.declared.Gate.{Gate}
-use Rattle.refusal.specs.declared.Gate.TheVariants.{Open, Shut}
+use Rattle.std.specs.Prelude.{Ok, Err}
 use Rattle.refusal.specs.declared.Refusal.{Refusal}
-use Rattle.refusal.specs.Rows.{◌then◌}
+use Rattle.refusal.specs.Rows.{Gate, ◌then◌}
 use Rattle.walk.specs.declared.Labelled.{Labelled}
-use Rattle.walk.specs.declared.Labelled.TheVariants.{Done, Refused}
 use Rattle.walk.specs.Call.{Outcome}
+use Rattle.walk.proofs.Success.{components_told}
 use Rattle.frame.specs.Call.{judge_of, entry_gate, Allowed}
 use Rattle.frame.specs.Stages.{Input}
 use Rattle.gridtext.specs.declared.FrameRead.{FrameRead}
@@ -30,9 +31,9 @@ use Rattle.gridtext.proofs.NeverShort.{small_answer, never_short}
 
 -- ---- the call
 
-then_open : (g h : Gate) → h ≡ Open → (g then h) ≡ g
-then_open Open h e = e
-then_open (Shut why) h e = refl
+then_open : (g h : Gate) → h ≡ Ok tt → (g then h) ≡ g
+then_open (Ok _) h e = e
+then_open (Err why) h e = refl
 
 module _ (f : Frame) (within : Within f) (work components entries : List ℕ) (wide : work_words ≤ length work) (room : 3 * most_components ≤ length components) (free : 3 * most_entries ≤ length entries) where
   rows_are : entry_gate (input_of f) (length work) ≡ judge_of (input_of f)
@@ -58,22 +59,22 @@ pub unanswered : {text before : List ℕ} → length before < most_text → Answ
 unanswered h = record { answers = λ l. absurd (omega arith); short = λ _. refl; within = omega arith; whole = refl; rest = refl }
 
 module _ {components₀ components entries₀ entries : List ℕ} (f : Frame) (within : Within f) where
-  pub printable : (answer : Labelled) (k l room : ℕ) → answer ≡ Done k l → most_text ≤ room → Labels (input_of f) components₀ components entries₀ entries answer → Printable components entries k room
+  pub printable : (answer : Result Labelled Refusal) (k l room : ℕ) → answer ≡ wrote k l → most_text ≤ room → Labels (input_of f) components₀ components entries₀ entries answer → Printable components entries k room
   unfolding most_bytes
   printable answer k l room e h (Labels.refused s p q) = let z : ◌≡◌ {A = ℕ} 0 1 = cc in absurd (omega arith)
   printable answer k l room e h (Labels.labelled {k = count} through out a w c d) =
       let n = small_answer f within through out a in
-      let same : k ≡ count = cc in
+      let same : k ≡ count = sym (ap components_told e) in
       record { answer = out; holds = record { past = _; rest = _; components_are = w.components_are; entries_are = w.entries_are; count_is = same ∙ c }; fits = omega (arith, n.0, n.1) }
 
   module _ {text before after : List ℕ} (reads : Reads text f) (h : most_text ≤ length before) where
-    pub answered_components : {end : ℕ} (answer : Labelled) (k l : ℕ) → answer ≡ Done k l → Labels (input_of f) components₀ components entries₀ entries answer → PrintsHeld components entries k before after end → Answered text before after end
+    pub answered_components : {end : ℕ} (answer : Result Labelled Refusal) (k l : ℕ) → answer ≡ wrote k l → Labels (input_of f) components₀ components entries₀ entries answer → PrintsHeld components entries k before after end → Answered text before after end
     answered_components answer k l e (Labels.refused s p q) prints = let z : ◌≡◌ {A = ℕ} 0 1 = cc in absurd (omega arith)
     answered_components answer k l e (Labels.labelled {k = count} through out a w c d) prints =
-        let same : k ≡ count = cc in
+        let same : k ≡ count = sym (ap components_told e) in
         answered h (Answers.labelled f reads through out a) (prints out (record { past = _; rest = _; components_are = w.components_are; entries_are = w.entries_are; count_is = same ∙ c }))
 
-    pub answered_refusal : {end : ℕ} (answer : Labelled) (why : Refusal) → answer ≡ Refused why → Labels (input_of f) components₀ components entries₀ entries answer → Printed before after 0 (refused_text why) end → Answered text before after end
+    pub answered_refusal : {end : ℕ} (answer : Result Labelled Refusal) (why : Refusal) → answer ≡ Err why → Labels (input_of f) components₀ components entries₀ entries answer → Printed before after 0 (refused_text why) end → Answered text before after end
     answered_refusal answer why e (Labels.refused {why = other} s p q) printed =
         let same : other ≡ why = cc in
         answered h (Answers.refused f reads why (rw same at s)) printed

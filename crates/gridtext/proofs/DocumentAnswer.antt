@@ -6,7 +6,7 @@ use mathlib.Core.List.{List, [], ◌∷◌, ◌++◌, flat_map}
 use Prim.Native.Nat.{ℕ}
 use native.Mathlib.Omega.{arith}
 use lib.Ieee.{of_bits, round, le, is_nan}
-use Rattle.refusal.specs.declared.Gate.TheVariants.{Open, Shut}
+use Rattle.std.specs.Prelude.{Ok, Err}
 use Rattle.refusal.specs.declared.Refusal.TheVariants.{NoSuchRule, OutOfRange, TwinNotBack, TwinElsewhere}
 use Rattle.refusal.specs.First.{first_of}
 use Rattle.refusal.specs.Rows.{refuse_first}
@@ -18,7 +18,8 @@ use Rattle.mesh.specs.Twins.{runs_back, twin_offends, twin_fault, twins_row}
 use Rattle.cells.specs.Sums.{total}
 use Rattle.cells.specs.Holes.{holes, places, width, height, held}
 use Rattle.digits.specs.Digits.{places_in, decimal_of}
-use Rattle.frame.specs.Call.{lengths_gate, params_gate, values_gate, judge_of}
+use Rattle.classify.specs.Call.{lengths_gate}
+use Rattle.frame.specs.Call.{params_gate, values_gate, judge_of}
 use Rattle.frame.specs.Examples.{program_frame, printed}
 use Rattle.frame.proofs.Examples.{of_the_frame}
 use Rattle.gridtext.specs.Lines.{Optional, spaced}
@@ -35,7 +36,7 @@ lists_are : input_of frame ≡ program_frame
 unfolding input_of params_of rule_of mark_of word_of twin_word frame_with params_with corner_at first_triangle second_triangle flat_map
 lists_are = refl
 
-let_through : judge_of program_frame ≡ Open
+let_through : judge_of program_frame ≡ Ok tt
 unfolding of_bits round le is_nan first_of refuse_first within next_of misplaced positions_row not_below corners_row some names_twice twice_row runs_back twin_offends twin_fault twins_row lengths_gate params_gate values_gate judge_of
 let_through = refl
 
@@ -67,7 +68,7 @@ pub out_of_range : refused_text (OutOfRange 0) ≡ 114 ∷ 101 ∷ 102 ∷ 117 �
 unfolding refused_text numbers_line spaced decimal_of places_in
 out_of_range = refl
 
-no_third : judge_of (input_of (alone (Optional.given 3))) ≡ Shut NoSuchRule
+no_third : judge_of (input_of (alone (Optional.given 3))) ≡ Err NoSuchRule
 unfolding of_bits is_nan lengths_gate params_gate values_gate judge_of input_of params_of rule_of params_with flat_map
 no_third = refl
 

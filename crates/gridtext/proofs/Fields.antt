@@ -3,7 +3,7 @@
 use mathlib.Core.Bool.{Bool, true, false}
 use mathlib.Core.Path.{◌≡◌, refl, sym, ap, ◌∙◌, subst}
 use mathlib.Core.List.{List, ◌∷◌, ◌++◌, tail}
-use Rattle.std.specs.Prelude.{Some}
+use Rattle.std.specs.Prelude.{Option, None, Some, Some}
 use Prim.Native.Nat.{ℕ, suc, ◌+◌, ◌-◌, ◌≤◌}
 use native.Mathlib.Omega.{arith}
 use lib.ListN.{length, get_or, drop, length-append, length-drop}
@@ -64,9 +64,9 @@ nothing_there text at e k form forms other n Field.minus rest a q = other rest a
 
 module _ {text : List ℕ} {at e : ℕ} where
   -- what a reader of words takes is a field, where no minus can stand for one
-  taken_field : (k : Kind) (form : ℕ → List ℕ) (few : ℕ → Few) → ((v : ℕ) → form_of k (Field.word v) ≡ form v) → ((v : ℕ) → words_of k (Field.word v) ≡ list_of (few v)) → ((rest : List ℕ) → Allowed k Field.minus → drop at text ≡ 45 ∷ e ∷ rest → ⊥) → (t : Taken) → Takes form text at e t → FieldAt k text at e (found_of few t)
-  taken_field k form few forms words other Taken.Nothing (Takes.nothing n) = FieldAt.nothing (nothing_there text at e k form forms other n)
-  taken_field k form few forms words other (Taken.Word w next) (Takes.word s) =
+  taken_field : (k : Kind) (form : ℕ → List ℕ) (few : ℕ → Few) → ((v : ℕ) → form_of k (Field.word v) ≡ form v) → ((v : ℕ) → words_of k (Field.word v) ≡ list_of (few v)) → ((rest : List ℕ) → Allowed k Field.minus → drop at text ≡ 45 ∷ e ∷ rest → ⊥) → (t : Option (Taken ℕ)) → Takes form text at e t → FieldAt k text at e (found_of few t)
+  taken_field k form few forms words other None (Takes.nothing n) = FieldAt.nothing (nothing_there text at e k form forms other n)
+  taken_field k form few forms words other (Some _) (Takes.word {v = w} {next = next} s) =
       let is : drop at text ≡ form_of k (Field.word w) ++ (e ∷ drop next text) = rw forms s.is in
       FieldAt.words (record { allowed = Allowed.word s.word; is = is; within = stands_within s }) (words w)
 
@@ -77,7 +77,7 @@ module _ {text : List ℕ} {at e : ℕ} where
   minus_field : (k : Kind) → Allowed k Field.minus → PairAt text at 45 e true → FieldStands k text at e Field.minus (at + 2)
   minus_field k a (PairAt.there is w) = record { allowed = a; is = is ∙ sym (minus_first k _); within = w }
 
-  pub hex_field : (t : Taken) → Takes hex_of text at e t → FieldAt Kind.Hex text at e (found_of Few.One t)
+  pub hex_field : (t : Option (Taken ℕ)) → Takes hex_of text at e t → FieldAt Kind.Hex text at e (found_of Few.One t)
   unfolding form_of field_of words_of word_of
   hex_field = taken_field Kind.Hex hex_of Few.One (λ v. refl) (λ v. refl) (λ rest a q. plain Field.minus a refl)
     where
@@ -85,7 +85,7 @@ module _ {text : List ℕ} {at e : ℕ} where
       plain (Field.word v) (Allowed.word w) e = let z : ◌≡◌ {A = ℕ} 0 1 = cc in omega arith
       plain Field.minus x e = elim x [ ]
 
-  pub decimal_field : (t : Taken) → Takes decimal_of text at e t → FieldAt Kind.Decimal text at e (found_of Few.One t)
+  pub decimal_field : (t : Option (Taken ℕ)) → Takes decimal_of text at e t → FieldAt Kind.Decimal text at e (found_of Few.One t)
   unfolding form_of field_of words_of word_of
   decimal_field = taken_field Kind.Decimal decimal_of Few.One (λ v. refl) (λ v. refl) (λ rest a q. plain Field.minus a refl)
     where
@@ -93,11 +93,11 @@ module _ {text : List ℕ} {at e : ℕ} where
       plain (Field.word v) (Allowed.word w) e = let z : ◌≡◌ {A = ℕ} 0 1 = cc in omega arith
       plain Field.minus x e = elim x [ ]
 
-  pub spread_field : PairAt text at 45 e false → (t : Taken) → Takes hex_of text at e t → FieldAt Kind.Spread text at e (found_of (Few.Two 1) t)
+  pub spread_field : PairAt text at 45 e false → (t : Option (Taken ℕ)) → Takes hex_of text at e t → FieldAt Kind.Spread text at e (found_of (Few.Two 1) t)
   unfolding form_of field_of words_of spread_words
   spread_field n = taken_field Kind.Spread hex_of (Few.Two 1) (λ v. refl) (λ v. refl) (λ rest a q. minus_not n rest q)
 
-  pub twin_field : PairAt text at 45 e false → (t : Taken) → Takes decimal_of text at e t → FieldAt Kind.Twin text at e (found_of Few.One t)
+  pub twin_field : PairAt text at 45 e false → (t : Option (Taken ℕ)) → Takes decimal_of text at e t → FieldAt Kind.Twin text at e (found_of Few.One t)
   unfolding form_of field_of words_of twin_word
   twin_field n = taken_field Kind.Twin decimal_of Few.One (λ v. refl) (λ v. refl) (λ rest a q. minus_not n rest q)
 

@@ -7,7 +7,7 @@ use Prim.Native.Nat.{ℕ, ◌*◌, ◌/◌, ◌%◌, ◌≤◌}
 use native.Mathlib.Omega.{arith}
 use borrow.Author.Tests.{eq-eqb, le-ltb}
 use lib.ListN.{length, length-append, length-map}
-use Rattle.refusal.specs.declared.Gate.TheVariants.{Open}
+use Rattle.std.specs.Prelude.{Ok}
 use Rattle.refusal.specs.Rows.{◌then◌}
 use Rattle.mesh.specs.Lists.{work_row, frame_words}
 use Rattle.quads.specs.declared.Quad.{Quad}
@@ -18,7 +18,8 @@ use Rattle.cells.specs.Listed.{Entry}
 use Rattle.walk.specs.Input.{grouping}
 use Rattle.walk.specs.Call.{all_entries, room_row, entries_row}
 use Rattle.frame.specs.Stages.{filtering, labelling, Answer}
-use Rattle.frame.specs.Call.{lengths_gate, judge_of}
+use Rattle.classify.specs.Call.{lengths_gate}
+use Rattle.frame.specs.Call.{judge_of}
 use Rattle.frame.proofs.Sound.{made_few}
 use Rattle.frame.proofs.Labelling.{kept_less}
 use Rattle.gridtext.specs.Lines.{CornerLine, TriangleLine}
@@ -29,12 +30,12 @@ use Rattle.gridtext.proofs.FewEntries.{few}
 
 pub record NeverShort (f : Frame) : Type 0 where
   -- rows 1 and 2
-  pub paired : lengths_gate (length (input_of f).xs) (length (input_of f).ys) (length (input_of f).angles) (length (input_of f).marks) (length (input_of f).spreads) (length (input_of f).triangles) (length (input_of f).twins) ≡ Open
+  pub paired : lengths_gate (length (input_of f).xs) (length (input_of f).ys) (length (input_of f).angles) (length (input_of f).marks) (length (input_of f).spreads) (length (input_of f).triangles) (length (input_of f).twins) ≡ Ok tt
   -- row 8
-  pub wide : (words : ℕ) → work_words ≤ words → work_row words (frame_words (length (input_of f).triangles) (length (input_of f).xs)) ≡ Open
+  pub wide : (words : ℕ) → work_words ≤ words → work_row words (frame_words (length (input_of f).triangles) (length (input_of f).xs)) ≡ Ok tt
   -- rows 9 and 10
-  pub roomy : judge_of (input_of f) ≡ Open → (out : List (List Entry)) → Answer (input_of f) out → (components entries : ℕ) → 3 * most_components ≤ components → 3 * most_entries ≤ entries
-      → (room_row components (length out) then entries_row entries (length (all_entries out))) ≡ Open
+  pub roomy : judge_of (input_of f) ≡ Ok tt → (out : List (List Entry)) → Answer (input_of f) out → (components entries : ℕ) → 3 * most_components ≤ components → 3 * most_entries ≤ entries
+      → (room_row components (length out) then entries_row entries (length (all_entries out))) ≡ Ok tt
 
 -- ---- lengths
 
@@ -43,7 +44,7 @@ unfolding flat_map
 flat_length slots per each [] = omega arith
 flat_length slots per each (a ∷ l) = length-append (slots a) (flat_map slots l) ∙ omega (arith, each a, flat_length slots per each l)
 
-pair_up : (x t : ℕ) → x ≤ 4096 → t ≤ 8192 → lengths_gate x x (2 * x) (2 * x) (2 * x) (3 * t) (3 * t) ≡ Open
+pair_up : (x t : ℕ) → x ≤ 4096 → t ≤ 8192 → lengths_gate x x (2 * x) (2 * x) (2 * x) (3 * t) (3 * t) ≡ Ok tt
 unfolding lengths_gate
 pair_up x t h l =
     let whole : 3 * t % 3 ≡ 0 = omega arith in
@@ -58,7 +59,7 @@ module _ (f : Frame) (within : Within f) where
   unfolding input_of
   triangles_length = flat_length _ 3 (λ t. refl) f.triangles
 
-  lists_pair : lengths_gate (length (input_of f).xs) (length (input_of f).ys) (length (input_of f).angles) (length (input_of f).marks) (length (input_of f).spreads) (length (input_of f).triangles) (length (input_of f).twins) ≡ Open
+  lists_pair : lengths_gate (length (input_of f).xs) (length (input_of f).ys) (length (input_of f).angles) (length (input_of f).marks) (length (input_of f).spreads) (length (input_of f).triangles) (length (input_of f).twins) ≡ Ok tt
   unfolding input_of
   lists_pair = rw (
     length-map f.corners _,
@@ -72,7 +73,7 @@ module _ (f : Frame) (within : Within f) where
 
   -- ---- an answer is small
 
-  module _ (through : judge_of (input_of f) ≡ Open) (out : List (List Entry)) (a : Answer (input_of f) out) where
+  module _ (through : judge_of (input_of f) ≡ Ok tt) (out : List (List Entry)) (a : Answer (input_of f) out) where
     abbrev keeps : List Quad
     keeps = kept_of (filtering (input_of f)) a.marks
 
@@ -85,7 +86,7 @@ module _ (f : Frame) (within : Within f) where
         let n : length (words_of keeps) / 4 ≤ most_components = omega (arith, length_words keeps, few_quads) in
         (omega (arith, r.0), omega (arith, r.1))
 
-    rooms_open : (components entries : ℕ) → 3 * most_components ≤ components → 3 * most_entries ≤ entries → (room_row components (length out) then entries_row entries (length (all_entries out))) ≡ Open
+    rooms_open : (components entries : ℕ) → 3 * most_components ≤ components → 3 * most_entries ≤ entries → (room_row components (length out) then entries_row entries (length (all_entries out))) ≡ Ok tt
     rooms_open components entries h l = rw (le-ltb (components / 3) (length out) (omega (arith, small_answer.0)), le-ltb (entries / 3) (length (all_entries out)) (omega (arith, small_answer.1)))
 
   pub never_short : NeverShort f

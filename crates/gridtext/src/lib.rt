@@ -11,7 +11,6 @@ use frame::Params;
 use inner::label::label_lines;
 use inner::print::{print_bad, print_components, print_refused};
 use inner::room;
-use walk::Labelled;
 
 pub mod inner;
 
@@ -37,10 +36,9 @@ fn labelled(corners: &[u32], triangles: &[u32], frame: FrameRead, out: &mut [u8]
 {
     let mut components = [0u32; 3 * room::MOST_COMPONENTS];
     let mut entries = [0u32; 3 * room::MOST_ENTRIES];
-    let answer = label_lines(corners, triangles, frame, &mut components, &mut entries);
-    match answer {
-        Labelled::Done(count, _) => print_components(&components, &entries, count, out),
-        Labelled::Refused(why) => print_refused(why, out),
+    match label_lines(corners, triangles, frame, &mut components, &mut entries) {
+        Ok(counts) => print_components(&components, &entries, counts.components, out),
+        Err(why) => print_refused(why, out),
     }
 }
 

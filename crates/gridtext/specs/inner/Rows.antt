@@ -80,9 +80,9 @@ list_of (Few.One w) = w ∷ []
 list_of (Few.Two m w) = m ∷ w ∷ []
 
 -- the field that a word taken from a text is
-abbrev pub found_of : (ℕ → Few) → Taken → Option (Few × ℕ)
-found_of few Taken.Nothing = None
-found_of few (Taken.Word w next) = Some (few w, next)
+abbrev pub found_of : (ℕ → Few) → Option (Taken ℕ) → Option (Few × ℕ)
+found_of few None = None
+found_of few (Some taken) = Some (few taken.value, taken.next)
 
 -- two bytes stand at `at`, or they do not
 pub data PairAt (text : List ℕ) (at a b : ℕ) : Bool → Type 0 where

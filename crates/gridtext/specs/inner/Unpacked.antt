@@ -1,12 +1,13 @@
 -- The words of a frame's lines in two lists, the lists that are unpacked from them, and what labelling those leaves.
+use Rattle.std.specs.Prelude.{Result}
+use Rattle.walk.specs.Call.{wrote}
 use Rattle.std.specs.Prelude.{◌≡◌, List, ◌++◌, ℕ, ◌+◌, ◌*◌, ◌/◌, ◌%◌, length, drop, replicate}
-use Rattle.refusal.specs.declared.Gate.TheVariants.{Open, Shut}
+use Rattle.std.specs.Prelude.{Ok, Err}
 use Rattle.refusal.specs.declared.Refusal.{Refusal}
 use Rattle.words.specs.Listing.{listing}
 use Rattle.mesh.specs.Lists.{frame_words}
 use Rattle.cells.specs.Listed.{Entry}
 use Rattle.walk.specs.declared.Labelled.{Labelled}
-use Rattle.walk.specs.declared.Labelled.TheVariants.{Done, Refused}
 use Rattle.walk.specs.Call.{all_entries}
 use Rattle.walk.specs.inner.Emitting.{Written}
 use Rattle.frame.specs.Stages.{Input, Answer}
@@ -53,13 +54,13 @@ abbrev pub Front : {A : Type 0} → (n room : ℕ) → A → (ℕ → A) → Lis
 Front n room none value r = r ≡ listing n value ++ drop n (replicate room none)
 
 -- what labelling leaves where no list is short
-pub data Labels (i : Input) (components₀ components entries₀ entries : List ℕ) : Labelled → Type 0 where
-  refused : {why : Refusal} → judge_of i ≡ Shut why → components ≡ components₀ → entries ≡ entries₀ → Labels i components₀ components entries₀ entries (Refused why)
-  labelled : {k l : ℕ} → judge_of i ≡ Open → (out : List (List Entry)) → Answer i out → Written out components₀ entries₀ components entries
-      → k ≡ length out → l ≡ length (all_entries out) → Labels i components₀ components entries₀ entries (Done k l)
+pub data Labels (i : Input) (components₀ components entries₀ entries : List ℕ) : Result Labelled Refusal → Type 0 where
+  refused : {why : Refusal} → judge_of i ≡ Err why → components ≡ components₀ → entries ≡ entries₀ → Labels i components₀ components entries₀ entries (Err why)
+  labelled : {k l : ℕ} → judge_of i ≡ Ok tt → (out : List (List Entry)) → Answer i out → Written out components₀ entries₀ components entries
+      → k ≡ length out → l ≡ length (all_entries out) → Labels i components₀ components entries₀ entries (wrote k l)
 
 -- of whichever frame stands there
-abbrev pub LabelsStanding : (corners triangles : List ℕ) (r : FrameRead) (components₀ components entries₀ entries : List ℕ) → Labelled → Type 0
+abbrev pub LabelsStanding : (corners triangles : List ℕ) (r : FrameRead) (components₀ components entries₀ entries : List ℕ) → Result Labelled Refusal → Type 0
 LabelsStanding corners triangles r components₀ components entries₀ entries answer =
     (f : Frame) → Standing corners triangles r f → Labels (input_of f) components₀ components entries₀ entries answer
 

@@ -6,6 +6,9 @@ ghost use Rattle.gridtext.specs.inner.Unpacked.{most_components, most_entries, S
 
 use crate::FrameRead;
 use crate::inner::{room, unpack};
+use axis::Axes;
+use mesh::Positions;
+use refusal::Refusal;
 use walk::Labelled;
 
 // Labels the frame whose words stand at the fronts of the first two lists.
@@ -15,7 +18,7 @@ pub fn label_lines(
     read: FrameRead,
     components: &mut [u32],
     entries: &mut [u32],
-) -> Labelled
+) -> Result<Labelled, Refusal>
     requires { ((f : Frame) × Standing corners.now triangles.now read f) × (3 * most_components ≤ length components.old) × (3 * most_entries ≤ length entries.old) }
     ensures { LabelsStanding corners.now triangles.now read components.old components.new entries.old entries.new result }
 {
@@ -29,17 +32,18 @@ pub fn label_lines(
     let named = unpack::triples(triangles, m, 0);
     let twins = unpack::triples(triangles, m, 3);
     let mut work = [0u32; room::WORK_WORDS];
-    frame::label_frame(
-        &x[..n],
-        &y[..n],
-        &angles[..2 * n],
-        &marks[..2 * n],
-        &spreads[..2 * n],
-        &named[..3 * m],
-        &twins[..3 * m],
-        read.params,
-        &mut work,
-        components,
-        entries,
-    )
+    let frame = frame::Frame {
+        corners: Positions {
+            x: &x[..n],
+            y: &y[..n],
+        },
+        axes: Axes {
+            angles: &angles[..2 * n],
+            marks: &marks[..2 * n],
+            spreads: &spreads[..2 * n],
+        },
+        triangles: &named[..3 * m],
+        twins: &twins[..3 * m],
+    };
+    frame::label_frame(frame, read.params, &mut work, components, entries)
 }

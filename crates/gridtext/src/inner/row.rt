@@ -105,23 +105,19 @@ pub(crate) fn pair_at(text: &[u8], at: usize, first: u8, second: u8) -> bool
 }
 
 // A word that was taken, as a field of one word.
-fn one_word(taken: Taken) -> Option<(Few, usize)>
+fn one_word(taken: Option<Taken<u32>>) -> Option<(Few, usize)>
     ensures { result ≡ found_of Few.One taken }
 {
-    match taken {
-        Taken::Nothing => None,
-        Taken::Word(word, next) => Some((Few::One(word), next)),
-    }
+    let word = taken?;
+    Some((Few::One(word.value), word.next))
 }
 
 // A word that was taken, as a spread: the mark 1 says that it is there.
-fn marked_word(taken: Taken) -> Option<(Few, usize)>
+fn marked_word(taken: Option<Taken<u32>>) -> Option<(Few, usize)>
     ensures { result ≡ found_of (Few.Two 1) taken }
 {
-    match taken {
-        Taken::Nothing => None,
-        Taken::Word(word, next) => Some((Few::Two(1, word), next)),
-    }
+    let word = taken?;
+    Some((Few::Two(1, word.value), word.next))
 }
 
 // A spread from `at` on, then the end: a minus where it is missing, or else a float.

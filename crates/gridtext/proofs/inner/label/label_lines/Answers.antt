@@ -34,14 +34,14 @@ triples-twins-requires c = let r = triangle_room _ _ _ _ c.requires.0.1 in (r.0,
 pub slice_bounds-x-end : goal.slice_bounds-x-end
 slice_bounds-x-end c = front_in c.args.read.corners most_corner_lines (bits 0) _ _ c.positions-x.ensures (omega (arith, (corner_room _ _ _ _ c.requires.0.1).0))
 
-pub slice_bounds-label_frame-end : goal.slice_bounds-label_frame-end
-slice_bounds-label_frame-end c = front_counted _ most_corner_lines (bits 0) _ _ c.positions-x.ensures
+pub slice_bounds-frame-end : goal.slice_bounds-frame-end
+slice_bounds-frame-end c = front_counted _ most_corner_lines (bits 0) _ _ c.positions-x.ensures
 
 pub slice_bounds-y-end : goal.slice_bounds-y-end
 slice_bounds-y-end c = front_in c.args.read.corners most_corner_lines (bits 0) _ _ c.positions-y.ensures (omega (arith, (corner_room _ _ _ _ c.requires.0.1).0))
 
-pub slice_bounds-label_frame-end-2 : goal.slice_bounds-label_frame-end-2
-slice_bounds-label_frame-end-2 c = front_counted _ most_corner_lines (bits 0) _ _ c.positions-y.ensures
+pub slice_bounds-frame-end-2 : goal.slice_bounds-frame-end-2
+slice_bounds-frame-end-2 c = front_counted _ most_corner_lines (bits 0) _ _ c.positions-y.ensures
 
 pub overflow_mul-angles : goal.overflow_mul-angles
 overflow_mul-angles c = omega (arith, (corner_room _ _ _ _ c.requires.0.1).0)
@@ -49,8 +49,8 @@ overflow_mul-angles c = omega (arith, (corner_room _ _ _ _ c.requires.0.1).0)
 pub slice_bounds-angles-end : goal.slice_bounds-angles-end
 slice_bounds-angles-end c = front_in (2 * c.args.read.corners) (2 * most_corner_lines) (bits 0) _ _ c.slots-angles.ensures (omega (arith, (corner_room _ _ _ _ c.requires.0.1).0))
 
-pub slice_bounds-label_frame-end-3 : goal.slice_bounds-label_frame-end-3
-slice_bounds-label_frame-end-3 c = front_counted _ (2 * most_corner_lines) (bits 0) _ _ c.slots-angles.ensures
+pub slice_bounds-frame-end-3 : goal.slice_bounds-frame-end-3
+slice_bounds-frame-end-3 c = front_counted _ (2 * most_corner_lines) (bits 0) _ _ c.slots-angles.ensures
 
 pub overflow_mul-marks : goal.overflow_mul-marks
 overflow_mul-marks c = omega (arith, (corner_room _ _ _ _ c.requires.0.1).0)
@@ -58,8 +58,8 @@ overflow_mul-marks c = omega (arith, (corner_room _ _ _ _ c.requires.0.1).0)
 pub slice_bounds-marks-end : goal.slice_bounds-marks-end
 slice_bounds-marks-end c = front_in (2 * c.args.read.corners) (2 * most_corner_lines) 0 _ _ c.marks-marks.ensures (omega (arith, (corner_room _ _ _ _ c.requires.0.1).0))
 
-pub slice_bounds-label_frame-end-4 : goal.slice_bounds-label_frame-end-4
-slice_bounds-label_frame-end-4 c = front_counted _ (2 * most_corner_lines) 0 _ _ c.marks-marks.ensures
+pub slice_bounds-frame-end-4 : goal.slice_bounds-frame-end-4
+slice_bounds-frame-end-4 c = front_counted _ (2 * most_corner_lines) 0 _ _ c.marks-marks.ensures
 
 pub overflow_mul-spreads : goal.overflow_mul-spreads
 overflow_mul-spreads c = omega (arith, (corner_room _ _ _ _ c.requires.0.1).0)
@@ -67,8 +67,8 @@ overflow_mul-spreads c = omega (arith, (corner_room _ _ _ _ c.requires.0.1).0)
 pub slice_bounds-spreads-end : goal.slice_bounds-spreads-end
 slice_bounds-spreads-end c = front_in (2 * c.args.read.corners) (2 * most_corner_lines) (bits 0) _ _ c.slots-spreads.ensures (omega (arith, (corner_room _ _ _ _ c.requires.0.1).0))
 
-pub slice_bounds-label_frame-end-5 : goal.slice_bounds-label_frame-end-5
-slice_bounds-label_frame-end-5 c = front_counted _ (2 * most_corner_lines) (bits 0) _ _ c.slots-spreads.ensures
+pub slice_bounds-frame-end-5 : goal.slice_bounds-frame-end-5
+slice_bounds-frame-end-5 c = front_counted _ (2 * most_corner_lines) (bits 0) _ _ c.slots-spreads.ensures
 
 pub overflow_mul-named : goal.overflow_mul-named
 overflow_mul-named c = omega (arith, (triangle_room _ _ _ _ c.requires.0.1).0)
@@ -76,8 +76,8 @@ overflow_mul-named c = omega (arith, (triangle_room _ _ _ _ c.requires.0.1).0)
 pub slice_bounds-named-end : goal.slice_bounds-named-end
 slice_bounds-named-end c = front_in (3 * c.args.read.triangles) (3 * most_triangle_lines) 0 _ _ c.triples-named.ensures (omega (arith, (triangle_room _ _ _ _ c.requires.0.1).0))
 
-pub slice_bounds-label_frame-end-6 : goal.slice_bounds-label_frame-end-6
-slice_bounds-label_frame-end-6 c = front_counted _ (3 * most_triangle_lines) 0 _ _ c.triples-named.ensures
+pub slice_bounds-frame-end-6 : goal.slice_bounds-frame-end-6
+slice_bounds-frame-end-6 c = front_counted _ (3 * most_triangle_lines) 0 _ _ c.triples-named.ensures
 
 pub overflow_mul-twins : goal.overflow_mul-twins
 overflow_mul-twins c = omega (arith, (triangle_room _ _ _ _ c.requires.0.1).0)
@@ -85,8 +85,8 @@ overflow_mul-twins c = omega (arith, (triangle_room _ _ _ _ c.requires.0.1).0)
 pub slice_bounds-twins-end : goal.slice_bounds-twins-end
 slice_bounds-twins-end c = front_in (3 * c.args.read.triangles) (3 * most_triangle_lines) 0 _ _ c.triples-twins.ensures (omega (arith, (triangle_room _ _ _ _ c.requires.0.1).0))
 
-pub slice_bounds-label_frame-end-7 : goal.slice_bounds-label_frame-end-7
-slice_bounds-label_frame-end-7 c = front_counted _ (3 * most_triangle_lines) 0 _ _ c.triples-twins.ensures
+pub slice_bounds-frame-end-7 : goal.slice_bounds-frame-end-7
+slice_bounds-frame-end-7 c = front_counted _ (3 * most_triangle_lines) 0 _ _ c.triples-twins.ensures
 
 pub returns : goal.returns
 returns c =
