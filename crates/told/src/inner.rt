@@ -7,10 +7,14 @@ ghost use Rattle.vectors.specs.inner.Lists.{Front};
 ghost use Rattle.told.specs.inner.Lending.{Lends};
 ghost use Rattle.told.specs.inner.Answer.{answer_line};
 
+use refusal::Refusal;
 use std::io::{Result, Write};
 use vectors::inner::runs::{write_counts, write_refusal, write_runs};
 use vectors::inner::words::Words;
 use walk::Labelled;
+
+// What a call that labels answers.
+type Answer = std::result::Result<Labelled, Refusal>;
 
 // The lengths of the lists.
 #[derive(Debug, Clone, Copy, PartialEq, Eq)]
@@ -47,20 +51,20 @@ pub fn lend(
     }
 }
 
-fn write_answer<W: Write>(out: &mut W, answer: Labelled) -> Result<usize>
+fn write_answer<W: Write>(out: &mut W, answer: Answer) -> Result<usize>
     ensures len { IfOk result (λ n. n ≡ length (answer_line answer)) }
     ensures bytes { OnOk result (Appends (W.contents out.old) (W.contents out.new) (answer_line answer)) }
 {
     match answer {
-        Labelled::Done(components, entries) => write_counts(out, components, entries),
-        Labelled::Refused(why) => write_refusal(out, why),
+        Ok(done) => write_counts(out, done.components, done.entries),
+        Err(why) => write_refusal(out, why),
     }
 }
 
 // The answer, then the three lists after the call.
 pub fn write_told<W: Write>(
     out: &mut W,
-    answer: Labelled,
+    answer: Answer,
     work: &[u32],
     components: &[u32],
     entries: &[u32],
