@@ -1,11 +1,11 @@
--- The sign bit by its pattern, and what std calls the sign and the magnitude. Assumes nothing.
+-- The sign bit by its pattern and by std's word, and the magnitude by the sign bit. Assumes nothing.
 use mathlib.Core.Path.{◌≡◌, refl, sym, ap, ◌∙◌, subst}
 use mathlib.Core.Bool.{Bool, true, false, cond, not, false≢true}
 use Prim.Native.Nat.{ℕ, zero, suc, ◌+◌, ◌%◌, ◌/◌}
 use lib.Dec.{T, leb, eqb}
-use lib.Ieee.{Float, nan, inf, fin, binary32, odd, of_fields, of_bits, to_bits, is_nan, fits}
+use lib.Ieee.{Float, nan, inf, fin, binary32, odd, of_fields, of_bits, to_bits, is_nan, fits, neg}
 use lib.Ieee.Bits.{of_bits-to_bits}
-use Rattle.std.specs.Float.{is_sign_negative, float_with_sign}
+use Rattle.std.specs.Float.{is_sign_negative}
 use Rattle.measure.specs.Float.{sign_of, abs_of}
 
 pub odd_sign : (d : ℕ) (s : Bool) (q k l : ℕ) → sign_of (odd d s q k l) ≡ s
@@ -40,7 +40,7 @@ sign_of_bits nan f = refl
 sign_of_bits (inf s) f = number_sign (inf s) f tt
 sign_of_bits (fin s m e) f = number_sign (fin s m e) f tt
 
--- ---- std's words for the sign and the magnitude
+-- ---- std's word for the sign
 
 pub negative_is : (x : Float) → is_sign_negative x ≡ sign_of x
 unfolding is_sign_negative
@@ -54,8 +54,15 @@ nan_clear nan h = refl
 nan_clear (inf s) h = absurd (false≢true h)
 nan_clear (fin s m e) h = absurd (false≢true h)
 
-pub abs_is : (x : Float) → float_with_sign false x ≡ abs_of x
-unfolding float_with_sign
-abs_is nan = refl
-abs_is (inf s) = refl
-abs_is (fin s m e) = refl
+-- ---- the magnitude by the sign bit
+
+pub abs_set : (x : Float) → sign_of x ≡ true → neg x ≡ abs_of x
+unfolding neg
+abs_set nan e = refl
+abs_set (inf s) e = ap (λ (t : Bool). inf (not t)) e
+abs_set (fin s m e) h = ap (λ (t : Bool). fin (not t) m e) h
+
+pub abs_clear : (x : Float) → sign_of x ≡ false → x ≡ abs_of x
+abs_clear nan e = refl
+abs_clear (inf s) e = ap inf e
+abs_clear (fin s m e) h = ap (λ (t : Bool). fin t m e) h

@@ -54,11 +54,11 @@ pub fn float_of(b: u32) -> f32
 }
 
 // The angle rule with no refusal, for differences of positions, which are in reach.
-#[tactic(auto, using(crate::proofs::Sign::abs_is), unfolding(crate::specs::Angle::angle_rule))]
+#[tactic(auto, unfolding(crate::specs::Angle::angle_rule))]
 pub fn angle_rule(dx: f32, dy: f32) -> f32
     ensures { result ≡ angle_rule dx dy }
 {
-    let base = octant::octant(dx.abs(), dy.abs());
+    let base = octant::octant(octant::magnitude(dx), octant::magnitude(dy));
     octant::below(
         octant::sign_bit(dy),
         octant::across(octant::sign_bit(dx), base),

@@ -1,7 +1,7 @@
 // The steps of document 01's angle rule, each one decision or one row of sums.
 ghost use Rattle.std.specs.Prelude.{◌≡◌};
 ghost use Rattle.measure.specs.Angle.{series_of, part_of, ratio_of, base_of, octant_of, across_of, below_of};
-ghost use Rattle.measure.specs.Float.{sign_of};
+ghost use Rattle.measure.specs.Float.{sign_of, abs_of};
 
 use std::f32::consts::{FRAC_PI_2, FRAC_PI_4, PI};
 
@@ -11,6 +11,14 @@ pub(crate) fn sign_bit(x: f32) -> bool
     ensures { result ≡ sign_of x }
 {
     !x.is_nan() && x.is_sign_negative()
+}
+
+// `x.abs()` was tried: an angle takes 6 in 100 longer.
+#[tactic(auto, using(crate::proofs::Sign::abs_set, crate::proofs::Sign::abs_clear))]
+pub(crate) fn magnitude(x: f32) -> f32
+    ensures { result ≡ abs_of x }
+{
+    if sign_bit(x) { -x } else { x }
 }
 
 // p, from w: the odd reciprocals with alternating signs, from 1/15 down to 1.

@@ -12,8 +12,8 @@ pub(crate) fn is_positive(x: f32) -> bool
     x > 0.0 && x.is_finite()
 }
 
-// x is finite and its magnitude is at most `most`, which its two callers give as a number above 0. `x.abs() <= most` takes ten times as long
-// over a list, in a trial of both in Rust.
+// x is finite and its magnitude is at most `most`, which its two callers give as a number above 0. `x.abs() <= most` was tried: row 4
+// takes six times as long.
 pub(crate) fn is_within(x: f32, most: f32) -> bool
     requires { T (finite most && not (sign_of most)) }
     ensures { result ≡ within most x }
