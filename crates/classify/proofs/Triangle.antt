@@ -1,6 +1,5 @@
 -- A triangle's three words, or fits, stored behind those of the triangles before it, are what its half-edges have by definition. Assumes
 -- nothing.
-use Rattle.std.specs.Prelude.{Option}
 use mathlib.Core.Path.{◌≡◌, refl, sym, ap, ◌∙◌}
 use mathlib.Core.Logic.{◌⊎◌, inl, inr}
 use mathlib.Core.List.{List, [], ◌∷◌}

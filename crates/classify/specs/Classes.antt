@@ -1,5 +1,5 @@
 -- Document 01, "Classes", over the lists of a frame: each half-edge is judged for itself.
-use Rattle.std.specs.Prelude.{Option, List, ℕ, Float, length, get_or}
+use Rattle.std.specs.Prelude.{List, ℕ, Float, length, get_or}
 use Rattle.std.specs.Float.Ieee as Ieee
 use Rattle.std.specs.Float.{nan, binary32}
 use Rattle.std.specs.Borrow.{Bor}
