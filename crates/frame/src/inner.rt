@@ -6,10 +6,10 @@ ghost use Rattle.frame.specs.Stages.{given};
 ghost use Rattle.frame.specs.Call.{judge_of, entry_gate};
 ghost use Rattle.frame.specs.inner.Steps.{Fated, CountedFates};
 
-use crate::{Frame, Params};
 use crate::gate::{params_gate, values_gate};
-use classify::inner::lengths_gate;
 use crate::stages::quads_of;
+use crate::{Frame, Params};
+use classify::inner::lengths_gate;
 use fates::inner::{compute, span_of};
 use laying::inner::sheet::Sheet;
 use mesh::inner::lists::{MOST_QUADS, frame_words, work_row};
@@ -25,10 +25,7 @@ pub struct FrameCounts {
 
 // Rows 1 to 7, with 18.
 #[tactic(auto, unfolding(crate::specs::Call::judge_of))]
-pub fn judge(
-    frame: Frame<'_>,
-    params: Params,
-) -> Result<(), Refusal>
+pub fn judge(frame: Frame<'_>, params: Params) -> Result<(), Refusal>
     ensures { result ≡ judge_of (given frame.entry params) }
 {
     lengths_gate(
@@ -51,11 +48,7 @@ pub fn work_gate(words: usize, edges: usize, corners: usize) -> Result<(), Refus
 
 // The stages up to the fate of every group of the quads kept, for a frame that rows 1 to 8 let through; answers the counts, and writes no
 // component.
-pub fn compute_frame(
-    frame: Frame<'_>,
-    params: Params,
-    work: &mut [u32],
-) -> FrameCounts
+pub fn compute_frame(frame: Frame<'_>, params: Params, work: &mut [u32]) -> FrameCounts
     requires { entry_gate (given frame params) (length work.old) ≡ Ok tt }
     ensures fated { Fated (given frame.entry params) result.quads work.old work.new }
     ensures counted_fates { CountedFates (length frame.entry.corners.x.now) result work.new }

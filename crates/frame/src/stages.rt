@@ -17,12 +17,7 @@ use quads::inner::write_quads;
 
 // The quads made of the triangles, at the front of their list; answers how many. Rows 1, 2, 4 and 5 show what classes ask, rows 1, 2 and
 // 4 to 7 what merging asks; quads are at most a sixth of the half-edges, so there is room for them.
-fn make_quads(
-    frame: Frame<'_>,
-    params: Params,
-    classes: &mut [u32],
-    quads: &mut [u32],
-) -> usize
+fn make_quads(frame: Frame<'_>, params: Params, classes: &mut [u32], quads: &mut [u32]) -> usize
     requires rows_open { judge_of (given frame params) ≡ Ok tt }
     requires classes_len { (length classes.old ≡ length frame.triangles.now) × (4 * most_quads ≤ length quads.old) }
     ensures { Made (given frame.entry params) classes.new result quads.new }

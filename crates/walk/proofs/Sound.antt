@@ -1,15 +1,13 @@
 -- What open rows say of an input: quads whole and few, of distinct corners that exist, and a workspace that is long enough for all that is
 -- put in it. Assumes nothing.
-use mathlib.Core.Path.{◌≡◌, refl, sym, ◌∙◌}
+use mathlib.Core.Path.{◌≡◌, sym}
 use mathlib.Core.Bool.{false}
 use mathlib.Core.List.{List}
-use Prim.Native.Nat.{ℕ, ◌+◌, ◌*◌, ◌/◌, ◌%◌, ◌≤◌, ◌<◌, max}
+use Prim.Native.Nat.{ℕ, ◌+◌, ◌*◌, ◌%◌, ◌≤◌, ◌<◌, max}
 use native.Mathlib.Decide.{dec_lt}
 use native.Mathlib.Omega.{arith}
 use lib.ListN.{length}
-use Rattle.std.specs.Prelude.{Ok, Err}
-use Rattle.refusal.specs.declared.Refusal.{Refusal}
-use Rattle.refusal.specs.Rows.{Gate, ◌then◌}
+use Rattle.std.specs.Prelude.{Ok}
 use Rattle.refusal.proofs.Rows.{open_both}
 use Rattle.mesh.specs.Lists.{whole_row, limit_row, most_corners, most_quads, work_row, quad_words}
 use Rattle.mesh.specs.Cells.{corners_row, names_twice, twice_row}

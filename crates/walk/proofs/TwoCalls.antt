@@ -1,5 +1,4 @@
 -- The call on two quads in both orders is as listed: by computation, and since there is one answer. Assumes nothing.
-use Rattle.walk.specs.Call.{wrote}
 use mathlib.Core.Path.{◌≡◌, refl, sym, ap, subst}
 use mathlib.Core.List.{List, [], ◌∷◌}
 use Prim.Native.Nat.{ℕ, zero, suc, ◌<◌}

@@ -1,5 +1,6 @@
 // The kept groups as components and entries: what each adds to their numbers, its holes, and their words at the fronts of two lists.
 // A caller may rely on the order of the quads: a component for each that is kept, with an entry for each of its lone records.
+// The workspace, a run in it and what `Ascending` says of both go one by one: the list is written at its front while the run is read.
 ghost use Rattle.std.specs.Prelude.{◌≡◌, true, cond, [], ◌∷◌, ◌+◌, ◌*◌, ◌-◌, ◌≤◌, ◌<◌, length};
 ghost use Rattle.words.specs.inner.Regions.{Kept};
 ghost use Rattle.cells.specs.Holes.{holes, height};
@@ -236,7 +237,7 @@ fn write_component(
     );
 }
 
-// The same, if the group is kept.
+// The same, if the group is kept: a function of its own, since what a branch has done is lost where it joins before the count.
 fn write_kept(
     work: &mut [u32],
     runs: Runs,

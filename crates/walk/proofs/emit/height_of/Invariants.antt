@@ -1,6 +1,6 @@
 -- `height_of`: `high` is the height of the first k entries.
 use mathlib.Core.Path.{◌≡◌}
-use Prim.Native.Nat.{◌-◌, ◌≤◌}
+use Prim.Native.Nat.{◌≤◌}
 use Rattle.cells.specs.Holes.{height}
 use Rattle.walk.specs.inner.Emitted.{least_x, entries_to}
 use Rattle.walk.proofs.emit.height_of.Given as goal

@@ -1,7 +1,7 @@
 -- `holes_of`: the front is cleared for the run's rows, these are noted there, and what they tell from neighbour to neighbour is counted.
-use mathlib.Core.Path.{◌≡◌, ◌∙◌, subst}
+use mathlib.Core.Path.{◌∙◌, subst}
 use mathlib.Core.List.{◌++◌}
-use Prim.Native.Nat.{ℕ, ◌-◌}
+use Prim.Native.Nat.{ℕ}
 use native.Mathlib.Omega.{arith}
 use lib.ListN.{drop}
 use Rattle.words.specs.inner.Regions.{Filled}

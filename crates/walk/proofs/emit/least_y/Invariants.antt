@@ -1,6 +1,5 @@
 -- `least_y`: y is the least of the first k records' y.
 use mathlib.Core.Path.{◌≡◌}
-use Prim.Native.Nat.{◌-◌, ◌≤◌}
 use Rattle.walk.specs.inner.Emitted.{y_in, least_of}
 use Rattle.walk.proofs.emit.least_y.Given as goal
 

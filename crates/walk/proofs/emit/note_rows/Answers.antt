@@ -44,9 +44,9 @@ loop-k-preserved c =
     let f = x_stays l.invariant.kept c.args.run c.requires.y_value.1 l.k in
     let row : c.shifted-row.result ≡ y_in c.args.work.now c.args.run.at l.k - least_y c.args.work.now c.args.run = omega (arith, c.shifted-row.ensures, c.y_of.ensures, c.requires.y_value.0) in
     let x : c.x_of.result ≡ x_in c.args.work.now c.args.run.at l.k = c.x_of.ensures ∙ f in
-      subst (λ (w : List ℕ). Noted c.args.work.now w c.args.run (l.k + 1))
-          (sym (c.note.ensures ∙ ap₂ (λ (r x : ℕ). set l.work r (noted_of (get_or l.work r 0) x)) row x))
-          (one_noted c.args.work.now c.args.run c.requires.ascending l.k (omega arith) l.work (omega (arith, c.requires.y_value.1, c.requires.ascending.room)) l.invariant)
+    subst (λ (w : List ℕ). Noted c.args.work.now w c.args.run (l.k + 1))
+    (sym (c.note.ensures ∙ ap₂ (λ (r x : ℕ). set l.work r (noted_of (get_or l.work r 0) x)) row x))
+    (one_noted c.args.work.now c.args.run c.requires.ascending l.k (omega arith) l.work (omega (arith, c.requires.y_value.1, c.requires.ascending.room)) l.invariant)
 
 pub shape_of-work : goal.shape_of-work
 shape_of-work c = c.loop-k.invariant.kept.len

@@ -1,5 +1,4 @@
 -- `note_rows`: the rows' words are those of the first k records.
-use Prim.Native.Nat.{◌-◌, ◌≤◌}
 use Rattle.walk.specs.inner.Rows.{Noted}
 use Rattle.walk.proofs.emit.note_rows.Given as goal
 

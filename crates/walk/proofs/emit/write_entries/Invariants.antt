@@ -1,6 +1,6 @@
 -- `write_entries`: the first k entries stand from the place on, and the rest of the list is as it was.
 use mathlib.Core.Path.{◌≡◌}
-use Prim.Native.Nat.{◌*◌, ◌-◌, ◌≤◌}
+use Prim.Native.Nat.{◌*◌}
 use lib.ListN.{length}
 use Rattle.walk.specs.inner.Emitted.{entries_to}
 use Rattle.walk.specs.Call.{entry_words}

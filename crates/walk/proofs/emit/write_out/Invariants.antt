@@ -1,6 +1,6 @@
 -- `write_out`: after the quads below s, their components and entries stand at the fronts, and the rest of both lists is as it was.
 use mathlib.Core.Path.{◌≡◌}
-use Prim.Native.Nat.{◌*◌, ◌-◌, ◌≤◌}
+use Prim.Native.Nat.{◌*◌}
 use lib.ListN.{length}
 use Rattle.words.specs.inner.Regions.{Kept}
 use Rattle.walk.specs.inner.Emitted.{out_to}

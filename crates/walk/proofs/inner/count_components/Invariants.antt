@@ -1,5 +1,4 @@
 -- `count_components`: after the quads below s, their components and entries are counted.
-use Prim.Native.Nat.{◌-◌, ◌≤◌}
 use Rattle.walk.proofs.Counting.{Counting}
 use Rattle.walk.proofs.inner.count_components.Given as goal
 
