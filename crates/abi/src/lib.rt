@@ -129,9 +129,7 @@ pub extern "C" fn ngeunsadok_axis_cache(
         number: rule,
         limit,
     };
-    Cache::from(axis::axis_cache(
-        angle0, first, angle1, second, spread,
-    ))
+    Cache::from(axis::axis_cache(angle0, first, angle1, second, spread))
 }
 
 #[unsafe(no_mangle)]
@@ -183,11 +181,7 @@ pub extern "C" fn ngeunsadok_merge_triangle_pairs(
         twins,
         classes,
     };
-    Count::from(quads::merge_triangle_pairs(
-        Positions { x, y },
-        mesh,
-        quads,
-    ))
+    Count::from(quads::merge_triangle_pairs(Positions { x, y }, mesh, quads))
 }
 
 #[unsafe(no_mangle)]
@@ -204,13 +198,7 @@ pub extern "C" fn ngeunsadok_filter_quads(
     ensures { FilterTold (filters.given (record { x = x.entry; y = y.entry }) quads.entry (filters_by ratio least greatest)) work.old kept.old result work.new kept.new }
 {
     let params = filter_params(ratio, least, greatest);
-    Count::from(filter::filter_quads(
-        Positions { x, y },
-        quads,
-        params,
-        work,
-        kept,
-    ))
+    Count::from(filter::filter_quads(Positions { x, y }, quads, params, work, kept))
 }
 
 #[unsafe(no_mangle)]
@@ -228,9 +216,7 @@ pub extern "C" fn ngeunsadok_label_components(
         result work.new components.new entries.new }
 {
     let params = label_params(leastquads, leastcorners);
-    Counts::from(walk::label_components(
-        quads, corners, params, work, components, entries,
-    ))
+    Counts::from(walk::label_components(quads, corners, params, work, components, entries))
 }
 
 #[unsafe(no_mangle)]
@@ -272,7 +258,5 @@ pub extern "C" fn ngeunsadok_label_frame(
         triangles,
         twins,
     };
-    Counts::from(frame::label_frame(
-        frame, params, work, components, entries,
-    ))
+    Counts::from(frame::label_frame(frame, params, work, components, entries))
 }
