@@ -1,4 +1,4 @@
-// The parameters of the calls, made of numbers that cross the boundary one by one.
+// The parameters of the calls, made of numbers that cross the boundary one by one. Functions and no `From`: the structs are of other crates.
 ghost use Rattle.std.specs.Prelude.{◌≡◌};
 ghost use Rattle.abi.specs.Answers.{edges_by, filters_by, labels_by};
 

@@ -24,7 +24,7 @@ pub struct SpreadRule {
 }
 
 // The axes of corners, in lists with two slots a corner: their angles, and their spreads, of which a mark of 0 says that there is none. Row 1
-// says whether these are of the lengths that belong together.
+// says whether these are of the lengths that belong together. The lists are apart, and marks no Option, since C lends them so.
 #[derive(Clone, Copy)]
 pub struct Axes<'a> {
     pub angles: &'a [f32],
@@ -41,7 +41,7 @@ pub struct AxisCache {
     pub informative1: bool,
 }
 
-// The cache of one corner, from its two axes.
+// The cache of one corner, from its two axes, each an angle and its spread, one by one as C hands them over.
 #[tactic(auto, unfolding(crate::specs::Cache::cache_call))]
 pub fn axis_cache(
     angle0: f32,

@@ -16,7 +16,7 @@ use Rattle.classify.specs.declared.EdgeParams.{EdgeParams}
 use Rattle.classify.specs.declared.Judged.{Judged}
 use Rattle.classify.specs.declared.Side.{Side}
 use Rattle.classify.specs.declared.three.Three.{Three}
-use Rattle.classify.specs.Three.{stored}
+use Rattle.classify.specs.inner.Three.{stored}
 use Rattle.classify.specs.Match.{no_fit, class_number}
 use Rattle.classify.specs.Fits.{fit_at}
 use Rattle.classify.specs.inner.Triangle.{judgement_of, class_words, fits_by, sides_at, AllFit}

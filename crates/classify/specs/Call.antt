@@ -23,7 +23,7 @@ lengths_gate x y angles marks spreads triangles classes =
     paired_row y x then doubled_row angles x then doubled_row marks x then doubled_row spreads x then whole_row triangles 3 then paired_row classes triangles
     then limit_row x most_corners then limit_row triangles most_half_edges
 
--- of lists that are lent, beside one of that length
+-- of lists that are lent, where the list that goes with the triangles is of length `paired`
 abbrev pub lengths_given : Positions → Axes → Bor (List ℕ) → ℕ → Gate
 lengths_given corners axes triangles paired =
     lengths_gate (length corners.x.now) (length corners.y.now) (length axes.angles.now) (length axes.marks.now) (length axes.spreads.now) (length triangles.now) paired

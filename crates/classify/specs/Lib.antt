@@ -1,4 +1,3 @@
-pub mod Three
 pub mod Match
 pub mod Classes
 pub mod Fits

@@ -59,11 +59,12 @@ greater_of (distance.Known start) (distance.Known end) = cond (Ieee.lt start end
 greater_of (distance.Known start) distance.Missing = no_fit
 greater_of distance.Missing end = no_fit
 
--- Grid, with the slots and the greater distance, when both ends have a distance strictly below the tolerance; a missing match at either end
--- is Spurious
+-- the slots at both ends, and the greater distance
 abbrev pub grid_side : Option Near → Option Near → GridSide
 grid_side start end = record { start = slot_in start; end = slot_in end; fit = greater_of (distance_in start) (distance_in end) }
 
+-- Grid, with the slots and the greater distance, when both ends have a distance strictly below the tolerance; a missing match at either end
+-- is Spurious
 unfoldable pub judged_by : Float → Option Near → Option Near → Judged
 judged_by tolerance start end = cond (is_below tolerance (distance_in start) && is_below tolerance (distance_in end)) (judged.Grid (grid_side start end)) judged.Spurious
 

@@ -2,7 +2,7 @@
 // into the lists of classes and of fits. And rows 1 and 2 of lists that go with triangles.
 ghost use Rattle.std.specs.Prelude.{◌≡◌, ◌⊎◌, ◌+◌, ◌*◌, ◌<◌, length};
 ghost use Rattle.classify.specs.inner.Triangle.{Sound, sides_at, judgement_of, class_words, fits_by, AllFit};
-ghost use Rattle.classify.specs.Three.{stored};
+ghost use Rattle.classify.specs.inner.Three.{stored};
 ghost use Rattle.classify.specs.Classes.{angle_between, classes_of, given};
 ghost use Rattle.classify.specs.Call.{lengths_given};
 
@@ -48,7 +48,7 @@ fn angle_between(corners: Positions<'_>, a: usize, b: usize) -> f32
 
 // Triangle t's sides, each with both slots and both distances. `write_triangles` hands on what is asked.
 // `Sound` stands in three contracts and not in a type: this one and `classify_triangles` are told by the lists (docs/CALLS.md), and a type
-// would ask more of their callers.
+// would ask more of their callers. A struct of the lists and the parameters would be the call's own parameters under another name.
 pub fn judge_triangle(
     corners: Positions<'_>,
     axes: Axes<'_>,

@@ -1,6 +1,6 @@
 // What a triangle has for each of its half-edges, in order: its sides, their judgements, their class numbers, their fits.
 ghost use Rattle.std.specs.Prelude.{◌≡◌, ◌+◌, ◌<◌, length};
-ghost use Rattle.classify.specs.Three.{stored};
+ghost use Rattle.classify.specs.inner.Three.{stored};
 
 #[derive(Clone, Copy, Debug, PartialEq, Eq)]
 pub struct Three<T> {

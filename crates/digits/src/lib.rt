@@ -32,7 +32,7 @@ struct Run {
     count: usize,
 }
 
-// The byte of an end.
+// The byte of an end, which is a call of its own name (docs/CALLS.md), and has no way back.
 pub fn byte(end: End) -> u8
     ensures { result ≡ end_byte end }
 {
@@ -68,7 +68,7 @@ fn run_at(text: &[u8], at: usize, base: u32, most: usize) -> Run
     Run { value, count: most }
 }
 
-// Eight upper-case hex digits from `at` on, then the end.
+// This and `decimal_at` take the text and a place, not the rest of it: `Takes` speaks of places. Eight upper-case hex digits from `at` on, then the end.
 pub fn hex_at(text: &[u8], at: usize, end: End) -> Option<Taken<u32>>
     ensures { Takes hex_of text.now at (end_byte end) result }
 {

@@ -12,7 +12,7 @@ use laying::inner::label::label;
 use laying::inner::layout::{GROUPS, KEYS, RECORDS, SEEDS, WALKED};
 use laying::inner::sheet::Sheet;
 
-// Corner c has no words; where it had, a record of them follows the m records.
+// Corner c has no words; it is of any workspace with room, not of a sheet alone. Where it had, a record of them follows the m records.
 fn take_corner(work: &mut [u32], span: usize, n: usize, seed: usize, m: usize, c: usize) -> usize
     requires n_in_bounds { (4 * span + 26 * n ≤ length work.old) × (span ≤ most_corners) × (n ≤ span) }
     requires c_lt_span { (c < span) × (seed < n) × (m < 4 * n) }

@@ -1,5 +1,6 @@
 // Of records of two words (key, corner and seed), those that no other has the seed and key of: once the records are in order, such ones
-// differ from both neighbours. They go, in order, to the place of the table of the sides.
+// differ from both neighbours. They go, in order, to the place of the table of the sides. The routines
+// take places and numbers of the workspace one by one, as those of `words` do that they call.
 ghost use Rattle.std.specs.Prelude.{◌+◌, ◌*◌, ◌≤◌, ◌<◌, ◌↔◌, IsTrue, length};
 ghost use Rattle.words.specs.inner.Order.{Room};
 ghost use Rattle.words.specs.inner.Regions.{Kept};

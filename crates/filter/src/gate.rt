@@ -14,7 +14,7 @@ use mesh::inner::lists::{
 use mesh::inner::positions::positions_row;
 use refusal::Refusal;
 
-// Rows 1 and 2.
+// Rows 1 and 2, by the lengths alone: a call tells that of its workspace apart.
 #[tactic(auto, unfolding(crate::specs::Call::lengths_gate))]
 fn lengths_gate(x: usize, y: usize, quads: usize) -> Result<(), Refusal>
     ensures { result ≡ lengths_gate x y quads }

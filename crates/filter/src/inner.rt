@@ -52,7 +52,7 @@ fn quad_at(quads: &[u32], q: usize) -> Quad
 
 // The quads whose mark is 0 at the front of a list of their own. `filter_quads` shows the room by row 9.
 // `keep_marked` has this loop over one list that it reads and writes: a loop for both would take the store as a closure, whose contract
-// would be what the loop keeps, which is no plainer.
+// would be what the loop keeps, which is no plainer. `at` goes by the quads that are kept, not by those that are read.
 pub(crate) fn write_kept(quads: &[u32], work: &[u32], kept: &mut [u32])
     requires marks { length quads.now / 4 ≤ length work.now }
     requires room { 4 * length (kept_to quads.now (λ (q : ℕ). get_or work.now q 0) (length quads.now / 4)) ≤ length kept.old }

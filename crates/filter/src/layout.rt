@@ -1,5 +1,6 @@
 // Where the filters keep what in the workspace, as specs/inner/Layout says: how many words for each quad stand before it.
-// A routine takes the workspace and n, and no view of both: each contract compares the whole list with what it was.
+// A routine that writes takes the workspace and n, and no view of both: its contract compares the whole list with what it was. What only
+// reads one quad is of `Standing`.
 
 // A record for each quad.
 pub(crate) const RECORDS: usize = 2;

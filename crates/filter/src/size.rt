@@ -124,6 +124,7 @@ impl Standing<'_> {
         float_of(self.work[MEDIANS * self.n + self.work[self.n + self.q] as usize])
     }
 
+    // `skew_mark` with another number and test, each in the words of its own definition.
     #[tactic(auto, using(std::proofs::lemmas::Bool::Decides::nat_tests), unfolding(crate::specs::inner::Steps::size_mark))]
     fn size_mark(self, params: FilterParams) -> u32
         requires { (medians_at self.n + self.n ≤ length self.work.now) × (get_or self.work.now (groups_at self.n + self.q) 0 < self.n) }

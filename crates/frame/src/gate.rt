@@ -11,7 +11,7 @@ use mesh::inner::positions::positions_row;
 use mesh::inner::twins::twins_row;
 use refusal::Refusal;
 
-// Rows 3 and 18.
+// Rows 3 and 18. The stages have some of these rows in gates of their own; a frame has all of a row before the next, so it names them anew.
 #[tactic(auto, unfolding(crate::specs::Call::params_gate))]
 pub(crate) fn params_gate(params: Params) -> Result<(), Refusal>
     ensures { result ≡ params_gate params }

@@ -1,4 +1,4 @@
--- Labels and their words: a label is its word less 16,384, so that a step between labels is a difference of words, and fits an i32.
+-- Labels and their words: a label is its word less 16,384, so that a step between labels is a difference of words.
 -- Assumes nothing.
 use Rattle.std.proofs.Common.{◌≡◌, ℕ, ◌+◌, ◌*◌, ◌-◌, ◌≤◌, ◌<◌, ℤ, pos, neg_ℤ, ◌+ℤ◌, ◌-ℤ◌, w32, to_z, of_z, arith}
 use Rattle.std.proofs.lemmas.Int.{ints}

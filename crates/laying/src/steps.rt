@@ -1,6 +1,6 @@
 // The walk: from the quads of a queue across each of their sides to quads not yet marked, which are laid, marked and queued in turn.
 // Each part answers the queue's length, or a clash once it is shown that no labelling exists. What a part asks, `State`, is in no type,
-// since a clash ends it; `seed` is for the clauses alone: as a ghost value, each caller would need a file that hands it on.
+// since a clash ends it; `seed` is for the clauses alone: a ghost value would have to be handed on by each caller.
 ghost use Rattle.std.specs.Prelude.{◌≢◌, ◌*◌, ◌/◌, ◌≤◌, ◌<◌, length};
 ghost use Rattle.laying.specs.inner.Layout.{mark, Across, Table};
 ghost use Rattle.laying.specs.inner.Invariant.{Meets, Met, State};

@@ -81,7 +81,7 @@ pub fn length(dx: f32, dy: f32) -> f32
     crate::root(dx * dx + dy * dy).unwrap_or(0.0)
 }
 
-// Row 3 for one parameter: its number is the place.
+// Row 3 for one parameter: its number is the place, a word of the answer, as the table of refusals has it.
 pub fn parameter_row(parameter: f32, number: u32) -> Result<(), Refusal>
     ensures { result ≡ parameter_row parameter number }
 {

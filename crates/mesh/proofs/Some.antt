@@ -1,4 +1,4 @@
--- What a search for "some number below n" knows: nothing so far, or a hit; and what its answer says of each number. Assumes nothing.
+-- "Some number below n": a hit decides it, it is not so where none has the property, and `any` over the range answers it. Assumes nothing.
 use mathlib.Core.Path.{◌≡◌, refl, sym, ap, ◌∙◌}
 use mathlib.Core.List.{List}
 use mathlib.Core.Bool.{Bool, true, false, ◌||◌, or-false, false≢true}
@@ -21,15 +21,6 @@ use Rattle.std.proofs.lemmas.Iterator.{YieldsList-from_range}
 use Rattle.std.proofs.lemmas.Iterator.Search.{any_from_yields_List}
 use Rattle.std.proofs.Math.Bool.{or_assoc}
 use Rattle.mesh.specs.Cells.{some}
-
-pub some_none : (p : ℕ → Bool) → some zero p ≡ false
-unfolding some
-some_none p = refl
-
--- one more number that does not have the property
-pub some_more : (n : ℕ) (p : ℕ → Bool) → some n p ≡ false → p n ≡ false → some (n + 1) p ≡ false
-unfolding some
-some_more n p e f = rw (add-one n, e, f)
 
 or_true : (a : Bool) → (a || true) ≡ true
 or_true true = refl

@@ -4,7 +4,8 @@
 
 pub mod inner;
 
-// Where corners stand: a list of their x, and one of their y. Row 1 says whether these are of one length.
+// Where corners stand: a list of their x, and one of their y. Two lists, since C lends them apart; row 1 says whether
+// they are of one length.
 #[derive(Clone, Copy)]
 pub struct Positions<'a> {
     pub x: &'a [f32],

@@ -8,7 +8,8 @@ use crate::pair::next_pair;
 use crate::{Mesh, Quad};
 use mesh::Positions;
 
-// How many quads the mesh makes. `merge_triangle_pairs` shows what is asked by its rows.
+// How many quads the mesh makes. This and `write_quads` go from pair to pair alike; one loop for both would take a closure whose contract is
+// what the loop keeps, which is no plainer. `merge_triangle_pairs` shows what is asked by its rows.
 #[tactic(auto, using(crate::proofs::Made::count_le, crate::proofs::Made::count_next, crate::proofs::Made::count_passed), unfolding(crate::specs::inner::Merging::count_to))]
 pub(crate) fn count_quads(mesh: Mesh<'_>) -> usize
     requires { MeshSound (mesh_of mesh) }

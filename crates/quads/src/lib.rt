@@ -24,7 +24,7 @@ pub struct Quad {
     pub d: u32,
 }
 
-// The half-edges with their corners, three to a triangle, their twins and their classes.
+// The half-edges with their corners, three to a triangle, their twins and their classes: three lists, since C lends them apart.
 #[derive(Clone, Copy)]
 pub struct Mesh<'a> {
     pub triangles: &'a [u32],

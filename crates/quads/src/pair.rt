@@ -8,7 +8,7 @@ use crate::diagonal::only_diagonal;
 use crate::{Mesh, Quad};
 use mesh::inner::twins::NO_TWIN;
 
-// Whether x is one of the three corners.
+// Whether x is one of the three corners. They are three words of a list read once, and `contains` of a list made of them is no plainer.
 #[tactic(auto, unfolding(crate::specs::Union::is_in))]
 fn is_one(x: u32, a: u32, b: u32, c: u32) -> bool
     ensures { result ≡ is_in x (a ∷ b ∷ c ∷ []) }

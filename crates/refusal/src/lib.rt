@@ -24,7 +24,8 @@ pub enum Refusal {
     EntriesShort(u32),
 }
 
-// The row's number.
+// The row's number. This and the next three are the numbers of document 01's table: public calls (docs/CALLS.md), and no order from 1 up that
+// an enum's own numbers could be.
 pub fn number(refusal: Refusal) -> u32
     ensures { result ≡ number_of refusal }
 {

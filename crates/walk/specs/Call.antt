@@ -46,11 +46,11 @@ room_row words wanted = refuse_if (ltb (words / 3) wanted) (RecordsShort wanted)
 abbrev pub entries_row : ℕ → ℕ → Gate
 entries_row words wanted = refuse_if (ltb (words / 3) wanted) (EntriesShort wanted)
 
--- the answer in 01's numbers: how many components there are, and how many entries
 -- so many components and entries were written
 abbrev pub wrote : ℕ → ℕ → Result Labelled Refusal
 wrote components entries = Ok (record { components = components; entries = entries })
 
+-- the answer in 01's numbers: how many components there are, and how many entries
 abbrev pub labelled_told : Result Labelled Refusal → InNumbers (ℕ × ℕ)
 labelled_told (Ok counts) = gives (counts.components, counts.entries)
 labelled_told (Err why) = refuses (0, 0) why

@@ -55,7 +55,7 @@ pub(crate) fn is_kept(fate: Fate) -> bool
     matches!(fate, Fate::Kept(_))
 }
 
-// One component of `count` entries more, if it is kept.
+// One component of `count` entries more, if it is kept. The caller reads what a kept group has of every group, so the test is in here.
 pub(crate) fn counted(totals: Totals, kept: bool, count: usize) -> Totals
     requires { (totals.components < 4294967296) × (totals.entries + count < 4294967296) }
     ensures { (result.components ≡ cond kept (totals.components + 1) totals.components) × (result.entries ≡ cond kept (totals.entries + count) totals.entries) }

@@ -1,5 +1,5 @@
 // What follows once every group has its fate, for each call that labels: counting, and apart from it rows 9 and 10, writing, zeroing, so that
-// a caller may know the counts and write nothing. `Writable` is what `compute` of `fates` has left, over quads that the rows of the calls
+// a caller may know the counts and write nothing. The lists go one by one: each is lent for itself, by C too. `Writable` is what `compute` of `fates` has left, over quads that the rows of the calls
 // above let through.
 ghost use Rattle.std.specs.Prelude.{◌≡◌};
 ghost use Rattle.walk.specs.Call.{Outcome, outcome_in};
@@ -11,7 +11,7 @@ use crate::emit::{counted, is_kept, write_out};
 use fates::inner::{fate_at, runs_at};
 use refusal::Refusal;
 
-// How many components, and how many entries in them.
+// How many components, and how many entries in them, to be compared with the lengths of lists; `Labelled` tells them as words.
 #[derive(Clone, Copy, Debug, PartialEq, Eq)]
 pub struct Totals {
     pub components: usize,

@@ -25,7 +25,7 @@ pub(crate) fn note(work: &mut [u32], row: usize, x: u32)
     work[row] = noted(work[row], x);
 }
 
-// 1 where a row has records on both sides of x.
+// 1 where a row has records on both sides of x, as `rows_around` adds it up.
 fn around(word: u32, x: u32) -> u32
     ensures { (result ≡ cond (tells_around word x) 1 0) × (result ≤ 1) }
 {

@@ -25,7 +25,7 @@ pub(crate) enum Kind {
     Twin,
 }
 
-// The words that a field gives: one, or a mark and a spread.
+// The words that a field gives: one, or a mark and a spread, as the lists of words have them, which C lends.
 #[derive(Drop)]
 pub(crate) enum Few {
     One(u32),

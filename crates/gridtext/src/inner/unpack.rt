@@ -1,5 +1,6 @@
 // A frame's lists, unpacked from the words of its lines: eight words a corner (x, y, angle, mark, spread, angle, mark, spread) and six a
-// triangle (three corners, three twins). Callers see to it that so many lines stand there.
+// triangle (three corners, three twins). Callers see to it that so many lines stand there. Each function is its words,
+// its room and its place in a line, told by its own `Front`; one for all would take these as parameters, and have no fewer calls.
 ghost use Rattle.std.specs.Prelude.{◌*◌, ◌≤◌, ◌<◌, length, get_or};
 ghost use Rattle.measure.specs.Float.{bits};
 ghost use Rattle.gridtext.specs.inner.Rows.{corner_size, triangle_size};

@@ -28,7 +28,7 @@ impl<'a> Sheet<'a> {
         self.quads[4 * q + k % 4] as usize
     }
 
-    // 1 for a side that runs from its lower to its higher corner, 2 for another.
+    // 1 for a side that runs from its lower to its higher corner, 2 for another: a word of the lent workspace, in which 0 is none.
     pub fn sense(self, e: usize) -> u32
         requires { e < 4 * self.count }
         ensures { result ≡ sense self.entry.quads.now e }

@@ -1,4 +1,4 @@
-// Where corners stand, and row 4: positions in range.
+// Row 4: positions in range.
 ghost use Rattle.std.specs.Prelude.{◌≡◌, ◌<◌, length};
 ghost use Rattle.mesh.specs.Positions.{positions_row};
 

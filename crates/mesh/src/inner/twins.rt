@@ -6,6 +6,7 @@ use crate::inner::first::refuse_first;
 use crate::inner::half_edge::next_edge;
 use refusal::Refusal;
 
+// The word that stands for no twin: the lists of twins are the caller's, as C lends them.
 pub const NO_TWIN: u32 = 0xFFFF_FFFF;
 
 fn is_past_end(twins: &[u32], w: u32) -> bool
