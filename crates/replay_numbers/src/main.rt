@@ -2,7 +2,9 @@
 // digits. It writes the proved call's answer to each line, and the gate compares what it wrote with the oracle's answers.
 #![tactic(auto)]
 
+use measure::Distance;
 use measure::inner::{float_of, word_of};
+use refusal::Refusal;
 use std::io::{Error, ErrorKind, Write};
 use std::rt::{Env, HostRuntime, Stdout};
 use std::{env, io};
@@ -10,8 +12,7 @@ use vectors::inner::runs::write_refusal;
 use vectors::{hex, word_at};
 
 fn write_number(out: &mut Stdout, x: f32) -> io::Result<()> {
-    let digits = hex(word_of(x));
-    out.write_all(&digits)?;
+    out.write_all(&hex(word_of(x)))?;
     out.write_all(b"\n")
 }
 
@@ -25,66 +26,57 @@ fn write_measured(out: &mut Stdout, answer: Result<f32, Refusal>) -> io::Result<
     }
 }
 
-fn write_distance(out: &mut Stdout, answer: Option<f32>) -> io::Result<()> {
+fn write_distance(out: &mut Stdout, answer: Distance) -> io::Result<()> {
     match answer {
-        Some(x) => write_number(out, x),
-        None => out.write_all(b"none\n"),
+        Distance::Known(x) => write_number(out, x),
+        Distance::Missing => out.write_all(b"none\n"),
     }
 }
 
 // Lines of one pattern: the root of each.
 fn roots(out: &mut Stdout, text: &[u8]) -> io::Result<()> {
-    let mut at = 0;
-    while at < text.len() {
-        if text.len() - at < 9 {
-            return Ok(());
-        }
-        write_measured(out, measure::root(float_of(word_at(text, at))))?;
-        at += 9;
+    for line in text.chunks_exact(9) {
+        write_measured(out, measure::root(float_of(word_at(line, 0))))?;
     }
     Ok(())
 }
 
-// One line of two patterns: the angle of a difference, or the distance of an angle from an axis.
-fn pair(out: &mut Stdout, a: f32, b: f32, angles: bool) -> io::Result<()> {
-    if angles {
-        write_measured(out, measure::angle(a, b))
-    } else {
-        write_distance(out, measure::axis_distance(a, b))
-    }
-}
-
-fn pairs(out: &mut Stdout, text: &[u8], angles: bool) -> io::Result<()> {
-    let mut at = 0;
-    while at < text.len() {
-        if text.len() - at < 18 {
-            return Ok(());
-        }
-        let a = float_of(word_at(text, at));
-        let b = float_of(word_at(text, at + 9));
-        pair(out, a, b, angles)?;
-        at += 18;
+// Lines of two patterns: what `replay` writes of each.
+fn pairs<F: Fn(&mut Stdout, f32, f32) -> io::Result<()>>(
+    out: &mut Stdout,
+    text: &[u8],
+    replay: F,
+) -> io::Result<()>
+    requires { F.IsAlwaysCallable replay }
+{
+    for line in text.chunks_exact(18) {
+        replay(out, float_of(word_at(line, 0)), float_of(word_at(line, 9)))?;
     }
     Ok(())
 }
 
-// A file's first letter says which rule its lines are for.
+// A file's first letter says which rule its lines are for: root, angle of a difference, or distance of an angle from an axis.
 fn replay(out: &mut Stdout, first: u8, text: &[u8]) -> io::Result<()> {
-    if first == b'r' {
-        roots(out, text)
-    } else {
-        pairs(out, text, first == b'a')
+    match first {
+        b'r' => roots(out, text),
+        b'a' => pairs(out, text, |out, dx, dy| {
+            write_measured(out, measure::angle(dx, dy))
+        }),
+        _ => pairs(out, text, |out, angle, axis| {
+            write_distance(out, measure::axis_distance(angle, axis))
+        }),
     }
 }
 
+// An argument without a letter names no file, and nothing is written for it. So this is no `vectors::inner::files`, which gives a file's
+// text alone and fails there.
 fn file(rt: &HostRuntime, out: &mut Stdout, name: &[u8]) -> io::Result<()> {
-    if name.len() == 0 {
+    let Some(first) = name.first() else {
         return Ok(());
-    }
-    let first = name[0];
+    };
     let mut text = [0u8; 65536];
     let n = vectors::inner::load(rt, out, name, &mut text)?;
-    replay(out, first, &text[..n])
+    replay(out, *first, &text[..n])
 }
 
 fn argument(rt: &HostRuntime, out: &mut Stdout, i: usize) -> io::Result<()> {
@@ -97,8 +89,7 @@ fn argument(rt: &HostRuntime, out: &mut Stdout, i: usize) -> io::Result<()> {
 
 fn main(rt: HostRuntime) -> io::Result<()> {
     let mut out = rt.stdout();
-    let count = env::args(&rt)?.len();
-    for i in 1..count {
+    for i in 1..env::args(&rt)?.len() {
         argument(&rt, &mut out, i)?;
     }
     Ok(())

@@ -1,223 +1,134 @@
 // Kinds 2 and 8: the classes of a frame's half-edges, by rule 1 or by the rule given. Kind 10: their classes and fits, by the rule given.
-ghost use Rattle.std.specs.Prelude.{◌≤◌, length, IfOk};
-ghost use Rattle.vectors.specs.inner.Lists.{Front, Onward};
-
-use axis::SpreadRule;
-use classify::{Classified, EdgeParams};
+use axis::{Axes, SpreadRule};
+use classify::EdgeParams;
 use measure::inner::{float_of, word_of};
+use mesh::Positions;
+use refusal::Refusal;
 use std::io;
 use std::io::{Stdout, Write};
-use vectors::inner::list::{after, fill, fill_floats, least};
 use vectors::inner::runs::{write_refusal, write_runs};
-use vectors::word_at;
+use vectors::inner::words::Words;
 
-fn write_answer(out: &mut Stdout, answer: Classified) -> io::Result<()> {
+// What a case gives to the call, beside the lists that the call writes.
+#[derive(Clone, Copy)]
+pub(crate) struct Given<'a> {
+    corners: Positions<'a>,
+    axes: Axes<'a>,
+    triangles: &'a [u32],
+    params: EdgeParams,
+}
+
+fn write_answer(out: &mut Stdout, answer: Result<(), Refusal>) -> io::Result<()> {
     match answer {
-        Classified::Done => out.write_all(b"done\n"),
-        Classified::Refused(why) => {
+        Ok(()) => out.write_all(b"done\n"),
+        Err(why) => {
             write_refusal(out, why)?;
             Ok(())
         }
     }
 }
 
-// Floats as words, by their bits, as far as there is room; answers how many.
-fn lay_words(list: &[f32], words: &mut [u32]) -> usize
-    ensures { Front result words.new }
-{
-    let count = least(list.len(), words.len());
-    let mut i = 0;
-    while i < count {
-        words[i] = word_of(list[i]);
-        i += 1;
-    }
-    count
-}
-
+// The fits, by their bits.
 fn write_fits(out: &mut Stdout, fits: &[f32]) -> io::Result<()> {
     let mut words = [0u32; 24580];
-    let count = lay_words(fits, &mut words);
+    let count = fits.len().min(words.len());
+    for i in 0..count {
+        words[i] = word_of(fits[i]);
+    }
     write_runs(out, &words[..count])?;
     Ok(())
 }
 
-// The fits are written where the case tells them.
-fn classify_lists(
+fn classify(
     out: &mut Stdout,
-    x: &[f32],
-    y: &[f32],
-    angles: &[f32],
-    marks: &[u32],
-    spreads: &[f32],
-    triangles: &[u32],
-    params: EdgeParams,
+    given: Given<'_>,
     classes: &mut [u32],
     fits: &mut [f32],
-    fitted: bool,
 ) -> io::Result<()> {
     let answer = classify::classify_all_edges(
-        x, y, angles, marks, spreads, triangles, params, classes, fits,
+        given.corners,
+        given.axes,
+        given.triangles,
+        given.params,
+        classes,
+        fits,
     );
     write_answer(out, answer)?;
     write_runs(out, classes)?;
-    if fitted {
-        write_fits(out, fits)?;
-    }
     Ok(())
 }
 
+// The end of a case that tells no fits: the list lent for them is as long as the triangles', and is not written.
+pub(crate) fn alone(
+    out: &mut Stdout,
+    _words: &mut Words<'_>,
+    given: Given<'_>,
+    classes: &mut [u32],
+) -> io::Result<()> {
+    let mut fits = [0.0f32; 24580];
+    let n = given.triangles.len().min(fits.len());
+    classify(out, given, classes, &mut fits[..n])
+}
+
+// The end of a case that tells the list of fits.
+pub(crate) fn with_fits(
+    out: &mut Stdout,
+    words: &mut Words<'_>,
+    given: Given<'_>,
+    classes: &mut [u32],
+) -> io::Result<()> {
+    let mut fits = [0.0f32; 24580];
+    let n = words.fill(&mut fits);
+    classify(out, given, classes, &mut fits[..n])?;
+    write_fits(out, &fits[..n])
+}
+
 // The tolerance and the spread limit.
-fn params_at(text: &[u8], at: usize, rule: u32) -> EdgeParams
-    requires { at ≤ length text.now }
-{
+fn params(words: &mut Words<'_>, rule: u32) -> EdgeParams {
+    let tolerance = float_of(words.word());
     let spread = SpreadRule {
         number: rule,
-        limit: float_of(word_at(text, after(text, at, 1))),
+        limit: float_of(words.word()),
     };
-    EdgeParams {
-        tolerance: float_of(word_at(text, at)),
-        spread,
-    }
+    EdgeParams { tolerance, spread }
 }
 
-// The call, with the list of fits that stands at a place.
-fn lend_fits(
+// The parameters, the corners, the lists of axes, two to a corner, the lists of half-edges, and then what `end` reads.
+pub(crate) fn replay<F: Fn(&mut Stdout, &mut Words<'_>, Given<'_>, &mut [u32]) -> io::Result<()>>(
     out: &mut Stdout,
-    text: &[u8],
-    at: usize,
-    x: &[f32],
-    y: &[f32],
-    angles: &[f32],
-    marks: &[u32],
-    spreads: &[f32],
-    triangles: &[u32],
-    params: EdgeParams,
-    classes: &mut [u32],
-    fitted: bool,
-) -> io::Result<usize>
-    requires { at ≤ length text.now }
-    ensures { IfOk result (Onward text.now at) }
+    words: &mut Words<'_>,
+    rule: u32,
+    end: F,
+) -> io::Result<()>
+    requires { F.IsAlwaysCallable end }
 {
-    let mut fits = [0.0f32; 24580];
-    let in_fits = fill_floats(text, at, &mut fits);
-    let n_fits = in_fits.length;
-    classify_lists(
-        out,
-        x,
-        y,
-        angles,
-        marks,
-        spreads,
-        triangles,
-        params,
-        classes,
-        &mut fits[..n_fits],
-        fitted,
-    )?;
-    Ok(in_fits.next)
-}
-
-// Of two places the first, for a case that tells fits, or the second.
-fn place(text: &[u8], at: usize, fitted: bool, first: usize, second: usize) -> usize
-    requires { Onward text.now at first × Onward text.now at second }
-    ensures { Onward text.now at result }
-{
-    if fitted { first } else { second }
-}
-
-// The lists of half-edges, which end the case. Where it tells no fits, the list lent for them is the triangles', read as floats, for its
-// length.
-fn half_edges(
-    out: &mut Stdout,
-    text: &[u8],
-    at: usize,
-    x: &[f32],
-    y: &[f32],
-    angles: &[f32],
-    marks: &[u32],
-    spreads: &[f32],
-    params: EdgeParams,
-    fitted: bool,
-) -> io::Result<usize>
-    requires { at ≤ length text.now }
-    ensures { IfOk result (Onward text.now at) }
-{
-    let mut triangles = [0u32; 24580];
-    let mut classes = [0u32; 24580];
-    let in_triangles = fill(text, at, &mut triangles);
-    let in_classes = fill(text, in_triangles.next, &mut classes);
-    let n_triangles = in_triangles.length;
-    let n_classes = in_classes.length;
-    let end = in_classes.next;
-    let next = lend_fits(
-        out,
-        text,
-        place(text, at, fitted, end, at),
-        x,
-        y,
-        angles,
-        marks,
-        spreads,
-        &triangles[..n_triangles],
-        params,
-        &mut classes[..n_classes],
-        fitted,
-    )?;
-    Ok(place(text, at, fitted, next, end))
-}
-
-// The lists of axes, two to a corner.
-fn axes(
-    out: &mut Stdout,
-    text: &[u8],
-    at: usize,
-    x: &[f32],
-    y: &[f32],
-    params: EdgeParams,
-    fitted: bool,
-) -> io::Result<usize>
-    requires { at ≤ length text.now }
-    ensures { IfOk result (Onward text.now at) }
-{
+    let params = params(words, rule);
+    let mut x = [0.0f32; 4097];
+    let mut y = [0.0f32; 4097];
     let mut angles = [0.0f32; 8194];
     let mut marks = [0u32; 8194];
     let mut spreads = [0.0f32; 8194];
-    let in_angles = fill_floats(text, at, &mut angles);
-    let in_marks = fill(text, in_angles.next, &mut marks);
-    let in_spreads = fill_floats(text, in_marks.next, &mut spreads);
-    let n_angles = in_angles.length;
-    let n_marks = in_marks.length;
-    let n_spreads = in_spreads.length;
-    half_edges(
-        out,
-        text,
-        in_spreads.next,
-        x,
-        y,
-        &angles[..n_angles],
-        &marks[..n_marks],
-        &spreads[..n_spreads],
+    let mut triangles = [0u32; 24580];
+    let mut classes = [0u32; 24580];
+    let n_x = words.fill(&mut x);
+    let n_y = words.fill(&mut y);
+    let n_angles = words.fill(&mut angles);
+    let n_marks = words.fill(&mut marks);
+    let n_spreads = words.fill(&mut spreads);
+    let n_triangles = words.fill(&mut triangles);
+    let n_classes = words.fill(&mut classes);
+    let given = Given {
+        corners: Positions {
+            x: &x[..n_x],
+            y: &y[..n_y],
+        },
+        axes: Axes {
+            angles: &angles[..n_angles],
+            marks: &marks[..n_marks],
+            spreads: &spreads[..n_spreads],
+        },
+        triangles: &triangles[..n_triangles],
         params,
-        fitted,
-    )
-}
-
-pub(crate) fn replay(
-    out: &mut Stdout,
-    text: &[u8],
-    at: usize,
-    rule: u32,
-    fitted: bool,
-) -> io::Result<usize>
-    requires { at ≤ length text.now }
-    ensures { IfOk result (Onward text.now at) }
-{
-    let params = params_at(text, at, rule);
-    let mut x = [0.0f32; 4097];
-    let mut y = [0.0f32; 4097];
-    let in_x = fill_floats(text, after(text, at, 2), &mut x);
-    let in_y = fill_floats(text, in_x.next, &mut y);
-    let n_x = in_x.length;
-    let n_y = in_y.length;
-    axes(out, text, in_y.next, &x[..n_x], &y[..n_y], params, fitted)
+    };
+    end(out, words, given, &mut classes[..n_classes])
 }
