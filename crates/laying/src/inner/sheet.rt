@@ -12,14 +12,7 @@ pub struct Sheet<'a> {
     pub ghost given: { Given span quads.now count },
 }
 
-impl<'a> Sheet<'a> {
-    pub fn new(quads: &'a [u32], span: usize, count: usize) -> Sheet<'a>
-        requires { Given span quads.now count }
-        ensures { (result.quads.now ≡ quads.now) × (result.span ≡ span) × (result.count ≡ count) }
-    {
-        Sheet { quads, span, count }
-    }
-
+impl Sheet<'_> {
     // Corner k of quad q.
     pub fn corner(self, q: usize, k: usize) -> usize
         requires { q < self.count }
