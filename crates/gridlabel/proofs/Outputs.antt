@@ -3,6 +3,7 @@ use Rattle.std.proofs.Common.{◌≡◌, ℕ, ◌≤◌, ◌<◌, List, [], ◌+
 use native.Mathlib.Decide.{dec_lt}
 use lib.Seq.{take_all, take_at, length-take-le}
 use Rattle.std.specs.Result.{MatchResult, IsErrAnd}
+use Rattle.std.specs.Io.{ReadsAtMost}
 use Rattle.streams.specs.Moves.{WholeRead}
 use Rattle.gridlabel.specs.Output.{Prints, AnswersAll}
 
@@ -17,26 +18,22 @@ as_read list input rest n h is end (no l) =
     let long = length-take-le n list h in
     sym (ap (take (length list)) is ∙ take_at (take n list) rest (length list) (omega (arith, long, l)))
 
-pub all_answered : {E : Type 0} {read : Result ℕ E} (n : ℕ) (list : List ℕ) (input left old new : Option (List ℕ)) → read ≡ Ok n → n ≤ length list → WholeRead read input left list
-    → Prints n list old new → AnswersAll input old new
-all_answered n list None left old new is f w p = tt
-all_answered n list (Some xs) None old new is f w p = absurd ((rw is at w).0)
-all_answered n list (Some xs) (Some ys) old new is f w p =
-    let (answer, is_answer, written) = p in
-    let whole = rw is at w in
-    (answer, is_answer xs (as_read list xs ys n f whole.0 whole.1 (dec_lt n (length list))), written)
+module _ {E D : Type 0} (Q : E → D → Type 0) where
+  -- what was read, by what `map_err` makes of it
+  abbrev pub Mapped : Result ℕ E → Result ℕ D → Type 0
+  Mapped read text = MatchResult read (λ n. text ≡ Ok n) (λ e. IsErrAnd text (Q e))
+
+  pub all_answered : (read : Result ℕ E) (text : Result ℕ D) (list : List ℕ) (input left old new : Option (List ℕ)) → Mapped read text → ReadsAtMost read list
+      → WholeRead read input left list → Prints text list old new → AnswersAll input old new
+  all_answered read (Err d) list input left old new m f w p = absurd p
+  all_answered (Err e) (Ok n) list input left old new m f w p = absurd m
+  all_answered (Ok k) (Ok n) list None left old new m f w p = tt
+  all_answered (Ok k) (Ok n) list (Some xs) None old new m f w p = absurd w.0
+  all_answered (Ok k) (Ok n) list (Some xs) (Some ys) old new m f w p =
+      let (answer, is, written) = p in
+      let same : n ≡ k = cc in
+      (answer, is xs (rw same (as_read list xs ys k f.0 w.0 w.1 (dec_lt k (length list)))), written)
 
 pub on_ok : {T E P Q : Type 0} (r : Result T E) → (P → Q) → OnOk r P → OnOk r Q
 on_ok (Ok x) h p = h p
 on_ok (Err e) h p = tt
-
--- ---- through `map_err`
-
-pub was_ok : {T E D : Type 0} (Q : E → D → Type 0) (r : Result T E) (s : Result T D) (x : T) → MatchResult r (λ x. s ≡ Ok x) (λ e. IsErrAnd s (Q e)) → s ≡ Ok x → r ≡ Ok x
-was_ok Q (Ok y) s x m is = cc
-was_ok Q (Err e) s x m is = absurd (rw is at m)
-
-pub still_ok : {T E D : Type 0} (Q : E → D → Type 0) (P : Type 0) (r : Result T E) (s : Result T D) → MatchResult r (λ x. s ≡ Ok x) (λ e. IsErrAnd s (Q e)) → OnOk r P → OnOk s P
-still_ok Q P (Ok x) s m p = rw m p
-still_ok Q P (Err e) (Ok x) m p = absurd m
-still_ok Q P (Err e) (Err d) m p = tt

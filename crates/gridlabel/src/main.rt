@@ -2,15 +2,15 @@
 // write that fails are one line on standard error, and a status of 1. `gridtext::answer` has the program's whole meaning.
 #![tactic(auto)]
 
-ghost use Rattle.std.specs.Prelude.{◌≡◌, ◌<◌, ◌≤◌, length, take, OnOk};
+ghost use Rattle.std.specs.Prelude.{◌≡◌, ◌<◌, ◌≤◌, length, take, IfOk, OnOk};
 ghost use Rattle.io.specs.Counts.{IsPrefixLen};
 ghost use Rattle.gridtext.specs.Gridlabel.{most_text};
 ghost use Rattle.gridlabel.specs.Input.{AnswersInput};
 ghost use Rattle.gridlabel.specs.Output.{Prints, AnswersAll};
 
+use std::fmt;
 use std::io::{Error, Read, Write};
 use std::process::ExitCode;
-use std::{fmt, io};
 use streams::inner::{read_whole, write_whole};
 
 // What failed, and why.
@@ -38,13 +38,19 @@ fn answered(list: &[u8], n: usize, out: &mut [u8]) -> usize
     gridtext::answer(&list[..n], out)
 }
 
-// Prints the answer to the n bytes that were read.
-fn print<W: Write>(writer: &mut W, list: &[u8], n: usize, out: &mut [u8]) -> io::Result<()>
-    requires { (most_text ≡ length list.now) × (n ≤ length list.now) × (most_text ≤ length out.old) }
-    ensures { OnOk result (Prints n list.now (W.contents writer.old) (W.contents writer.new)) }
+// Prints the answer to what was read, or tells what failed.
+fn print<W: Write>(
+    writer: &mut W,
+    text: Result<usize, Failure>,
+    list: &[u8],
+    out: &mut [u8],
+) -> Result<(), Failure>
+    requires { (most_text ≡ length list.now) × IfOk text (λ n. n ≤ length list.now) × (most_text ≤ length out.old) }
+    ensures { OnOk result (Prints text list.now (W.contents writer.old) (W.contents writer.new)) }
 {
+    let n = text?;
     let end = answered(list, n, out);
-    write_whole(writer, &out[..end])
+    write_whole(writer, &out[..end]).map_err(Failure::Output)
 }
 
 // The program over any reader and writer: the writer gets the answer to all that the reader has left, where it is known what that is and what
@@ -54,8 +60,8 @@ fn run<R: Read, W: Write>(reader: &mut R, writer: &mut W) -> Result<(), Failure>
 {
     let mut input = [0u8; 65536];
     let mut output = [0u8; 65536];
-    let n = read_whole(reader, &mut input).map_err(Failure::Input)?;
-    print(writer, &input, n, &mut output).map_err(Failure::Output)
+    let text = read_whole(reader, &mut input).map_err(Failure::Input);
+    print(writer, text, &input, &mut output)
 }
 
 fn main(rt: HostRuntime) -> ExitCode {

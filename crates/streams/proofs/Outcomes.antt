@@ -1,5 +1,4 @@
--- What `outcome_of` is by the tests of the code (the answer below 0 or not, errno 4 or not, the count 0 or not), and that it moves no more
--- bytes than there were. Assumes nothing.
+-- What `outcome_of` is by the tests of the code: the answer below 0 or not, errno 4 or not, the count 0 or not. Assumes nothing.
 use mathlib.Core.Path.{◌≡◌, refl, sym, ap, ◌∙◌}
 use mathlib.Core.Bool.{true, false}
 use Prim.Native.Nat.{ℕ}

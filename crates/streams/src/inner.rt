@@ -1,6 +1,6 @@
-// A text read whole from a reader, and a text written whole. What a descriptor gives or takes no contract can say; where
-// a reader's bytes are known, or a writer's, as over memory, the contracts say what becomes of them. `outcome` fixes what is made of each
-// call's answer. Where a call fails, the error is that of its errno, which is 0 where the system gave it none.
+// A text read whole from a reader, and a text written whole. What a descriptor gives or takes no contract can say; where a reader's bytes
+// are known, or a writer's, as over memory, the contracts say what becomes of them. `outcome` fixes what is made of each call's answer. A call
+// that fails tells the error of its errno, which is 0 where the system gave it none; of a write that takes nothing see `write_whole`.
 ghost use Rattle.std.specs.Prelude.{◌≡◌, ◌≤◌, ◌<◌, ◌^◌, length, Ok, IfOk, OnOk};
 ghost use Rattle.std.specs.Io.{ReadsAtMost};
 ghost use Rattle.std.specs.Io.KnownBytes.{Appends};
@@ -15,7 +15,7 @@ const MOST_TRIES: u32 = 0xFFFF_FFFF;
 // The most bytes that one call is to move, as Linux has it.
 const MOST_MOVED: usize = 0x7FFF_F000;
 
-// The error's number, as errno has it.
+// The error's number, as errno has it; by hand, since std has no conversion from an error to its errno that tells EINTR for `Interrupted`.
 fn number(error: Error) -> i32 {
     if let Some(code) = error.raw_os_error() {
         return code;
@@ -53,9 +53,9 @@ fn read_some<R: Read>(reader: &mut R, part: &mut [u8]) -> Moved
     Moved::Interrupted
 }
 
-// One write, likewise. Two loops and not one over a closure: a caller is told nothing of what a closure leaves in its reader or part, which
-// `bytes` promises of both, each in its way.
-fn write_some<W: Write>(writer: &mut W, part: &[u8]) -> Moved
+// One write, likewise; `errno` becomes EINTR where a signal cut a call off. Two loops and not one over a closure: a caller is told nothing of
+// what a closure leaves in its reader or part, which `bytes` promises of both, each in its way.
+fn write_some<W: Write>(writer: &mut W, part: &[u8], errno: &mut i32) -> Moved
     ensures within { MovedWithin (length part.now) result }
     ensures bytes { WrittenBy result (W.contents writer.old) (W.contents writer.new) part.now }
 {
@@ -65,6 +65,7 @@ fn write_some<W: Write>(writer: &mut W, part: &[u8]) -> Moved
         let Moved::Interrupted = came else {
             return came;
         };
+        *errno = EINTR;
     }
     Moved::Interrupted
 }
@@ -92,13 +93,15 @@ pub fn write_whole<W: Write>(writer: &mut W, text: &[u8]) -> Result<()>
     ensures nothing { length text.now ≡ 0 → result ≡ Ok tt }
     ensures bytes { OnOk result (Appends (W.contents writer.old) (W.contents writer.new) text.now) }
 {
+    // Where a write takes nothing, the error told is the last one that a signal made, if any: so `gridlabel` has always told it.
+    let mut errno = 0;
     let mut at = 0;
     while at < text.len() {
-        match write_some(writer, &text[at..]) {
+        match write_some(writer, &text[at..], &mut errno) {
             Moved::Some(n) => at += n,
-            Moved::Nothing => return Err(Error::from_raw_os_error(0)),
+            Moved::Nothing => return Err(Error::from_raw_os_error(errno)),
             Moved::Interrupted => return Err(Error::from_raw_os_error(EINTR)),
-            Moved::Failed(errno) => return Err(Error::from_raw_os_error(errno)),
+            Moved::Failed(error) => return Err(Error::from_raw_os_error(error)),
         }
     }
     Ok(())
