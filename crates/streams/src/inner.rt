@@ -71,6 +71,7 @@ fn write_some<W: Write>(writer: &mut W, part: &[u8], errno: &mut i32) -> Moved
 }
 
 // Reads until the input ends or the list is full; answers how many bytes that is. A read that fails is a failure, however much came before it.
+// The place goes on by what a call moved.
 pub fn read_whole<R: Read>(reader: &mut R, list: &mut [u8]) -> Result<usize>
     ensures front { ReadsAtMost result list.new }
     ensures bytes { WholeRead result (R.remaining reader.old) (R.remaining reader.new) list.new }
@@ -93,7 +94,7 @@ pub fn write_whole<W: Write>(writer: &mut W, text: &[u8]) -> Result<()>
     ensures nothing { length text.now ≡ 0 → result ≡ Ok tt }
     ensures bytes { OnOk result (Appends (W.contents writer.old) (W.contents writer.new) text.now) }
 {
-    // Where a write takes nothing, the error told is the last one that a signal made, if any: so `gridlabel` has always told it.
+    // Where a write takes nothing, the error told is the last one that a signal made, if any: `gridlabel` prints it.
     let mut errno = 0;
     let mut at = 0;
     while at < text.len() {
