@@ -1,6 +1,6 @@
 // The three lists of a call that labels, from a case to the fronts of arrays, and after the call as lines. What goes to standard output no
 // contract can say; the functions that write answer how much their lines tell. Where the writer fails, some of the lines may be written.
-ghost use Rattle.std.specs.Prelude.{◌≡◌, length, IfOk, OnOk};
+ghost use Rattle.std.specs.Prelude.{◌≡◌, ◌≤◌, length, IfOk, OnOk};
 ghost use Rattle.std.specs.Io.KnownBytes.{Appends};
 ghost use Rattle.vectors.specs.inner.Lines.{runs_of};
 ghost use Rattle.vectors.specs.inner.Lists.{Front};
@@ -33,7 +33,8 @@ pub struct Lines {
     pub entries: usize,
 }
 
-// Reads the three lists, which stand one after the other in the text, to the fronts of the arrays.
+// Reads the three lists, which stand one after the other in the text, to the fronts of the arrays. They are three arrays of the caller, each
+// lent on its own: a struct of three mutable lists would have to be made anew for each call.
 pub fn lend(
     words: &mut Words<'_>,
     work: &mut [u32],
@@ -43,6 +44,7 @@ pub fn lend(
     ensures is { Lends words.old.text.now words.old.at (record { work = work.old; components = components.old; entries = entries.old }) (record { work = work.new; components = components.new; entries = entries.new }) result words.new.at }
     ensures text { words.new.text.now ≡ words.old.text.now }
     ensures within { Front result.work work.new × Front result.components components.new × Front result.entries entries.new }
+    ensures onward { words.old.at ≤ words.new.at }
 {
     Lent {
         work: words.fill(work),
@@ -61,7 +63,7 @@ fn write_answer<W: Write>(out: &mut W, answer: Answer) -> Result<usize>
     }
 }
 
-// The answer, then the three lists after the call.
+// The answer, then the three lists after the call, each on its own as in `lend`.
 pub fn write_told<W: Write>(
     out: &mut W,
     answer: Answer,

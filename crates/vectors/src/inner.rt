@@ -1,4 +1,5 @@
-// A file of vectors, read whole; `list` takes lists from it, and `runs` writes them.
+// A file of vectors read whole, and a program over files and their cases. `words` takes words and lists from a text, `list` has a list's
+// elements, and `runs` writes lists and answers as lines.
 ghost use Rattle.std.specs.Prelude.{◌≡◌, ◌<◌, length, Ok, OnOk};
 ghost use Rattle.std.specs.Io.{ReadsAtMost};
 ghost use Rattle.std.specs.Io.KnownBytes.{Appends};
@@ -62,7 +63,8 @@ fn file<F: Fn(&mut Stdout, &[u8]) -> Result<()>>(
     replay(out, &text[..n])
 }
 
-// A whole program: what `replay` writes of each file that an argument names, behind the file's heading.
+// A whole program: what `replay` writes of each file that an argument names, behind the file's heading. It has no clause on its answer: no
+// contract can say what arguments there are, what a file holds, or what standard output got.
 pub fn files<F: Fn(&mut Stdout, &[u8]) -> Result<()>>(rt: &HostRuntime, replay: F) -> Result<()>
     requires { F.IsAlwaysCallable replay }
 {
@@ -73,8 +75,8 @@ pub fn files<F: Fn(&mut Stdout, &[u8]) -> Result<()>>(rt: &HostRuntime, replay: 
     Ok(())
 }
 
-// What `replay` writes of each case of a text, by its kind. The text ends at its end, or at a kind that `replay` does not know and answers
-// with false; it has fewer cases than bytes. A text without a word has none.
+// What `replay` writes of each case of a text, by its kind. It stops where the text ends, or where `replay` answers false, as it does at a
+// kind that it does not know. A case has at least its kind, so there are fewer cases than bytes, and none in a text without a word.
 pub fn cases<W: Write, F: Fn(&mut W, u32, &mut Words<'_>) -> Result<bool>>(
     out: &mut W,
     text: &[u8],
@@ -83,7 +85,7 @@ pub fn cases<W: Write, F: Fn(&mut W, u32, &mut Words<'_>) -> Result<bool>>(
     requires { F.IsAlwaysCallable replay }
     ensures { length text.now < 9 → (result ≡ Ok tt) × (out.new ≡ out.old) }
 {
-    let mut words = Words::new(text);
+    let mut words = Words::new(text, 0);
     for _ in 0..text.len() {
         let Some(kind) = words.kind() else {
             return Ok(());

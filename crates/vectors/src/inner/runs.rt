@@ -49,13 +49,6 @@ fn run_end(list: &[u32], from: usize) -> usize
     list.len()
 }
 
-fn write_run<W: Write>(out: &mut W, count: usize, word: u32, first: bool) -> Result<()> {
-    if !first {
-        out.write_all(b" ")?;
-    }
-    write!(out, "{count}*{word}")
-}
-
 // How many runs the line tells.
 pub fn write_runs<W: Write>(out: &mut W, list: &[u32]) -> Result<usize>
     ensures { IfOk result (λ n. n ≡ runs_of list.now) }
@@ -64,7 +57,11 @@ pub fn write_runs<W: Write>(out: &mut W, list: &[u32]) -> Result<usize>
     let mut at = 0;
     while at < list.len() {
         let end = run_end(list, at);
-        write_run(out, end - at, list[at], at == 0)?;
+        if at > 0 {
+            out.write_all(b" ")?;
+        }
+        let (count, word) = (end - at, list[at]);
+        write!(out, "{count}*{word}")?;
         runs += 1;
         at = end;
     }
@@ -83,7 +80,8 @@ fn write_decimal<W: Write>(out: &mut W, n: u32) -> Result<usize>
     Ok(places)
 }
 
-// A number of records; answers the line's number of bytes.
+// A number of records; answers the line's number of bytes. Apart from `write_counts`: each is a public call with a definition of its own,
+// `count_line` and `counts_line`.
 pub fn write_count<W: Write>(out: &mut W, count: u32) -> Result<usize>
     ensures len { IfOk result (λ n. n ≡ length (count_line count)) }
     ensures bytes { OnOk result (Appends (W.contents out.old) (W.contents out.new) (count_line count)) }
@@ -94,7 +92,7 @@ pub fn write_count<W: Write>(out: &mut W, count: u32) -> Result<usize>
     Ok(places + 6)
 }
 
-// Two numbers of records; answers the line's number of bytes.
+// Two numbers of records; answers the line's number of bytes. Apart from `write_count`, as said there.
 pub fn write_counts<W: Write>(out: &mut W, first: u32, second: u32) -> Result<usize>
     ensures len { IfOk result (λ n. n ≡ length (counts_line first second)) }
     ensures bytes { OnOk result (Appends (W.contents out.old) (W.contents out.new) (counts_line first second)) }

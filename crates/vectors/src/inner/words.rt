@@ -15,15 +15,18 @@ pub struct Words<'a> {
 }
 
 impl<'a> Words<'a> {
-    pub fn new(text: &'a [u8]) -> Words<'a>
-        ensures { (result.text.now ≡ text.now) × (result.at ≡ 0) }
+    // From a place on.
+    pub fn new(text: &'a [u8], at: usize) -> Words<'a>
+        requires { at ≤ length text.now }
+        ensures { (result.text.now ≡ text.now) × (result.at ≡ at) }
     {
-        Words { text, at: 0 }
+        Words { text, at }
     }
 
     // Goes on by so many words, and no further than to the text's end.
     pub fn skip(&mut self, count: usize)
-        ensures { (self.new.text.now ≡ self.old.text.now) × (self.new.at ≡ after_of self.old.text.now self.old.at count) }
+        ensures on { (self.new.text.now ≡ self.old.text.now) × (self.new.at ≡ after_of self.old.text.now self.old.at count) }
+        ensures onward { self.old.at ≤ self.new.at }
     {
         self.at = after(self.text, self.at, count);
     }
@@ -69,6 +72,7 @@ impl<'a> Words<'a> {
         ensures is { (result ≡ length_at self.old.text.now self.old.at (length out.old)) × Laid T.blank out.old out.new result (λ (k : ℕ). T.of (element_at self.old.text.now self.old.at (length out.old) k)) }
         ensures on { (self.new.text.now ≡ self.old.text.now) × (self.new.at ≡ next_at self.old.text.now self.old.at (length out.old)) }
         ensures within { Front result out.new }
+        ensures onward { self.old.at ≤ self.new.at }
     {
         let head = head_at(self.text, self.at, out.len());
         for i in 0..head.length {
