@@ -2,52 +2,24 @@
 // proved call's answer to each case and the three lists after it, and the gate compares what it wrote with the oracle's answers.
 #![tactic(auto)]
 
-ghost use Rattle.std.specs.Prelude.{◌<◌, ◌≤◌, length, IfOk};
-
+use std::io;
 use std::rt::{HostRuntime, Stdout};
-use std::{env, io};
-use vectors::inner::list::after;
+use vectors::inner::words::Words;
+use vectors::inner::{cases, files};
 
 mod frames_case;
 
-// One case, by its kind; 9 is 6 behind the number of a rule; one of no known kind ends the file.
-fn replay(out: &mut Stdout, text: &[u8], at: usize) -> io::Result<usize>
-    requires { at < length text.now }
-    ensures { IfOk result (λ next. (at < next) × (next ≤ length text.now)) }
-{
-    if text.len() - at < 9 {
-        return Ok(text.len());
-    }
-    let kind = vectors::word_at(text, at);
-    if kind == 6 {
-        return frames_case::replay(out, text, at + 9, 1);
-    }
-    if kind == 9 {
-        let rule = vectors::word_at(text, at + 9);
-        return frames_case::replay(out, text, after(text, at + 9, 1), rule);
-    }
-    Ok(text.len())
-}
-
-fn cases(out: &mut Stdout, text: &[u8]) -> io::Result<()> {
-    let mut at = 0;
-    while at < text.len() {
-        at = replay(out, text, at)?;
-    }
-    Ok(())
-}
-
-fn argument(rt: &HostRuntime, out: &mut Stdout, i: usize) -> io::Result<()> {
-    let mut text = [0u8; 65536];
-    let n = vectors::inner::load_argument(rt, out, i, &mut text)?;
-    cases(out, &text[..n])
+// One case, where its kind is known; 9 is 6 behind the number of a rule.
+fn case(out: &mut Stdout, kind: u32, words: &mut Words<'_>) -> io::Result<bool> {
+    let rule = match kind {
+        6 => 1,
+        9 => words.word(),
+        _ => return Ok(false),
+    };
+    frames_case::replay(out, words, rule)?;
+    Ok(true)
 }
 
 fn main(rt: HostRuntime) -> io::Result<()> {
-    let mut out = rt.stdout();
-    let count = env::args(&rt)?.len();
-    for i in 1..count {
-        argument(&rt, &mut out, i)?;
-    }
-    Ok(())
+    files(&rt, |out, text| cases(out, text, case))
 }
