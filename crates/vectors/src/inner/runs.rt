@@ -49,7 +49,7 @@ fn run_end(list: &[u32], from: usize) -> usize
     list.len()
 }
 
-// How many runs the line tells.
+// How many runs the line tells. The place goes on by a run, so that no count of turns bounds the loop.
 pub fn write_runs<W: Write>(out: &mut W, list: &[u32]) -> Result<usize>
     ensures { IfOk result (λ n. n ≡ runs_of list.now) }
 {
