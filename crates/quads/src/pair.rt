@@ -36,7 +36,8 @@ fn union_of(triangles: &[u32], t: usize, u: usize) -> Option<Quad>
     }
 }
 
-// Triangle t's pairing with a higher one, across the only diagonal of both.
+// Triangle t's pairing with a higher one, across the only diagonal of both. `MeshSound` stands in the contracts of three functions and in no
+// type: a `Mesh` is what a caller lends, sound or not, and a type of sound ones would be made and taken apart for these three alone.
 #[tactic(auto, using(crate::proofs::Side::only_own, crate::proofs::Side::same_at), unfolding(crate::specs::Merge::paired_at, crate::specs::Merge::paired_across, crate::specs::Merge::paired_by))]
 pub(crate) fn pair_at(mesh: Mesh<'_>, t: usize) -> Option<Quad>
     requires { MeshSound (mesh_of mesh) × (3 * t + 2 < length mesh.triangles.now) }

@@ -237,7 +237,7 @@ fn write_component(
     );
 }
 
-// The same, if the group is kept: a function of its own, since what a branch has done is lost where it joins before the count.
+// The same, if the group is kept: a function of its own, so that the clauses tell the lists of both cases at once.
 fn write_kept(
     work: &mut [u32],
     runs: Runs,
