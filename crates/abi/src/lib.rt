@@ -1,5 +1,5 @@
 // What C and Rust link: each public call with answers that cross the boundary, fixed by the call's own definition.
-// For C each list is a pointer and the number of its elements.
+// For C each list is a pointer and the number of its elements; the structs tell a refusal by a number, since C has no enum with values in it.
 #![tactic(auto)]
 
 ghost use Rattle.std.specs.Prelude.{◌≡◌};

@@ -13,6 +13,7 @@ fn find(p: &mut [u32], x: usize) -> usize
 {
     let mut at = x;
     let mut up = p[at] as usize;
+    // no `for`: a climb to the root counts nothing
     'climb: while up != at {
         let g = p[up];
         p[at] = g;

@@ -48,7 +48,7 @@ impl<'a> Cells<'a> {
         ends_key(self.corners[at + i], self.corners[at + next])
     }
 
-    // No side has the key 0: it is that of a marked cell's.
+    // No side has the key 0: it is that of a marked cell's, a word of the lent table.
     fn table_key(self, work: &[u32], q: usize, i: usize) -> u32
         requires { (i < self.size) × Has self.size self.corners.now q × (q < length work.now) }
         ensures { let z = self.entry in result ≡ table_key z.size z.corners.now work.now q i }

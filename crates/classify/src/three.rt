@@ -1,4 +1,5 @@
 // What a triangle has for each of its half-edges, in order: its sides, their judgements, their class numbers, their fits.
+// A struct and no `[T; 3]`: its parts have names in the definitions.
 ghost use Rattle.std.specs.Prelude.{◌≡◌, ◌+◌, ◌<◌, length};
 ghost use Rattle.classify.specs.inner.Three.{stored};
 

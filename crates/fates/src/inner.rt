@@ -1,5 +1,5 @@
 // What becomes of the groups, without a call's checks. A `requires` here is what the rows of the calls above have let through (1, 2, 5, 6
-// and 8), or what `compute` has left.
+// and 8), or what `compute` has left, which callers read by the numbers of its layout.
 ghost use Rattle.std.specs.Prelude.{◌≡◌, ◌+◌, ◌*◌, ◌≤◌, ◌<◌, max, length};
 ghost use Rattle.fates.specs.inner.Computed.{Computed};
 ghost use Rattle.fates.specs.inner.FateWords.{fate_at};

@@ -29,7 +29,7 @@ fn begins_claim(work: &[u32], a: usize, k: usize, count: usize) -> bool
     !follows(work, a, k) && k + 1 < count && follows(work, a, k + 1)
 }
 
-// How many pairs several of the run's records have.
+// How many pairs several of the run's records have. A loop: `Exactly` grows with it, where `filter` and `count` had to be read back into it.
 fn claimed(work: &[u32], run: Run) -> u32
     requires { (run.at + 2 * run.count ≤ length work.now) × (run.count < 4294967296) }
     ensures { Exactly (Begins work.now run.at run.count) result }

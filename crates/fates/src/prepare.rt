@@ -1,5 +1,6 @@
 // What the walks ask of the workspace, from the quads alone: the groups, how many quads each has, the table of the sides in order of
 // keys, and for each side the place where its run of equal keys begins.
+// The routines that take a list and the numbers of its layout do so since it is one lent list, which they write.
 // A caller may rely on zero marks, words and flags; the place of the corners' records may hold anything.
 ghost use Rattle.std.specs.Prelude.{◌≡◌, ℕ, ◌+◌, ◌*◌, ◌-◌, ◌≤◌, ◌<◌, length, get_or};
 ghost use Rattle.mesh.specs.Lists.{most_corners};

@@ -65,7 +65,7 @@ impl Standing<'_> {
 }
 
 impl Checked<'_> {
-    // The marks of the first two rules.
+    // The marks of the first two rules; for its likeness to `mark_sizes` see there.
     pub(crate) fn mark_skewed(self, work: &mut [u32])
         requires { let n = length self.quads.now / 4 in lengths_at n + 4 * n ≤ length work.old }
         ensures { let n = length self.entry.quads.now / 4 in Filled work.old work.new 0 n n (skew_mark self.entry.params.ratio work.old n) }

@@ -41,7 +41,8 @@ fn gather_lengths(work: &mut [u32], n: usize)
     }
 }
 
-// Where the run of one group that begins at record s ends, of n records by group.
+// Where the run of one group that begins at record s ends, of n records by group. A loop: what it has passed is `Run` itself, which of `find`
+// had to be gathered from what its closure told.
 fn run_end(work: &[u32], n: usize, s: usize) -> usize
     requires s_lt_n { (s < n) × (records_at n + 2 * n ≤ length work.now) }
     requires rising { Rising n work.now }

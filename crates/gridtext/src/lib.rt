@@ -14,7 +14,8 @@ use inner::room;
 
 pub mod inner;
 
-// A text that was read: the parameters of its P line, and how many C and T lines it has.
+// A text that was read: the parameters of its P line, and how many C and T lines it has. The lines' words stand in lists of a fixed room, which
+// is lent: no heap.
 #[derive(Drop)]
 pub struct FrameRead {
     pub params: Params,
@@ -43,7 +44,7 @@ fn labelled(corners: &[u32], triangles: &[u32], frame: FrameRead, out: &mut [u8]
 }
 
 // The answer to a text, at the front of the list; answers how long it is. In a list of fewer than 65,536 bytes nothing is written, and
-// 0 is answered.
+// 0 is answered, a length that no answer has (docs/CALLS.md).
 pub fn answer(text: &[u8], out: &mut [u8]) -> usize
     ensures { Answered text.now out.old out.new result }
 {

@@ -31,6 +31,7 @@ fn settle(work: &mut [u32], span: usize, c: usize, to: Spot) -> bool
     requires { (4 * span ≤ length work.old) × (c < span) × (span ≤ most_corners) }
     ensures { Settled span work.old work.new c to.x to.y result }
 {
+    // no words yet: labels are words of the lent list, and 0 is none
     if work[2 * span + c] == 0 {
         work[2 * span + c] = to.x;
         work[3 * span + c] = to.y;

@@ -5,7 +5,7 @@
 pub mod inner;
 
 // Where corners stand: a list of their x, and one of their y. Two lists, since C lends them apart; row 1 says whether
-// they are of one length.
+// they are of one length, so that no field here can.
 #[derive(Clone, Copy)]
 pub struct Positions<'a> {
     pub x: &'a [f32],

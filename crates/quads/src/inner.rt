@@ -24,7 +24,7 @@ pub(crate) fn count_quads(mesh: Mesh<'_>) -> usize
     made
 }
 
-// Four words of a list from `at` on. A caller has room for the record.
+// Four words of a list from `at` on, in the words of a splice. A caller has room for the record.
 pub fn store(quads: &mut [u32], at: usize, q: Quad)
     requires { at + 3 < length quads.old }
     ensures { quads.new ≡ take at quads.old ++ ((q.a ∷ q.b ∷ q.c ∷ q.d ∷ []) ++ drop (at + 4) quads.old) }

@@ -9,6 +9,7 @@ use vectors::inner::list::say_over;
 use vectors::inner::runs::{write_count, write_refusal, write_runs};
 use vectors::inner::words::Words;
 
+// As in the programs that tell other calls: four lines, over what each call answers.
 fn write_answer(out: &mut Stdout, answer: Result<u32, Refusal>) -> io::Result<usize> {
     match answer {
         Ok(count) => write_count(out, count),
@@ -26,6 +27,7 @@ fn params(words: &mut Words<'_>) -> FilterParams {
 }
 
 // The quads are said over up to so many words.
+// The lists stand at the fronts of arrays, each with its length beside it: there is no heap.
 pub(crate) fn replay(out: &mut Stdout, words: &mut Words<'_>) -> io::Result<()> {
     let mut x = [0.0f32; 4097];
     let mut y = [0.0f32; 4097];

@@ -55,6 +55,7 @@ fn label(
 }
 
 // The parameters, the positions, the axes, two to a corner, and the half-edges; then the rest.
+// The lists stand at the fronts of arrays, each with its length beside it: there is no heap.
 pub(crate) fn replay(out: &mut Stdout, words: &mut Words<'_>, rule: u32) -> io::Result<()> {
     let params = params(words, rule);
     let mut x = [0.0f32; 4104];

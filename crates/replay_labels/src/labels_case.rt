@@ -16,6 +16,7 @@ fn params(words: &mut Words<'_>) -> LabelParams {
 }
 
 // The quads are said over up to so many words.
+// The lists stand at the fronts of arrays, each with its length beside it: there is no heap.
 pub(crate) fn replay(out: &mut Stdout, words: &mut Words<'_>) -> io::Result<()> {
     let mut quads = [0u32; 16392];
     let mut work = [0u32; 196656];

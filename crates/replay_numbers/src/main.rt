@@ -33,7 +33,7 @@ fn write_distance(out: &mut Stdout, answer: Distance) -> io::Result<()> {
     }
 }
 
-// Lines of one pattern: the root of each.
+// Lines of one pattern: the root of each. Apart from `pairs`: the size of a line as a parameter would ask that it is above 0.
 fn roots(out: &mut Stdout, text: &[u8]) -> io::Result<()> {
     for line in text.chunks_exact(9) {
         write_measured(out, measure::root(float_of(word_at(line, 0))))?;

@@ -9,11 +9,8 @@ use vectors::inner::runs::write_refusal;
 use vectors::inner::words::Words;
 
 fn write_mark(out: &mut Stdout, mark: bool) -> io::Result<()> {
-    if mark {
-        out.write_all(b" 1")
-    } else {
-        out.write_all(b" 0")
-    }
+    let mark = u32::from(mark);
+    write!(out, " {mark}")
 }
 
 fn write_cache(out: &mut Stdout, cache: AxisCache) -> io::Result<()> {

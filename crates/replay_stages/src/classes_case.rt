@@ -94,6 +94,7 @@ fn params(words: &mut Words<'_>, rule: u32) -> EdgeParams {
 }
 
 // The parameters, the corners, the lists of axes, two to a corner, the lists of half-edges, and then what `end` reads.
+// The lists stand at the fronts of arrays, each with its length beside it: there is no heap.
 pub(crate) fn replay<F: Fn(&mut Stdout, &mut Words<'_>, Given<'_>, &mut [u32]) -> io::Result<()>>(
     out: &mut Stdout,
     words: &mut Words<'_>,

@@ -26,7 +26,7 @@ fn number(error: Error) -> i32 {
     0
 }
 
-// What a call on a part came to, by the answer of the standard library.
+// What a call on a part came to, by the answer of the standard library: as numbers, which `outcome` is told by.
 fn came_to(answer: Result<usize>, part: &[u8]) -> Moved
     requires { IfOk answer (λ n. (n ≤ length part.now) × (n < 2 ^ 63)) }
     ensures { CameTo answer result }

@@ -20,7 +20,8 @@ pub enum Moved {
     Failed(i32),
 }
 
-// What a call came to that was to move a part's bytes, by its answer and by errno.
+// What a call came to that was to move a part's bytes, by its answer and by errno. Both are numbers as the system has them, and this a call of
+// its own (docs/CALLS.md): its definition is over them.
 pub fn outcome(got: isize, error: i32, part: &[u8]) -> Moved
     ensures { result ≡ outcome_of got error (length part.now) }
 {
@@ -37,7 +38,7 @@ pub fn outcome(got: isize, error: i32, part: &[u8]) -> Moved
     Moved::Some(n)
 }
 
-// What a reader came to that has so many bytes, by a call that moved none: the whole where the input ended, and else a failure, by its errno,
+// A call of its own too, over errno. What a reader came to that has so many bytes, by a call that moved none: the whole where the input ended, and else a failure, by its errno,
 // however much came before it.
 #[tactic(auto, unfolding(crate::specs::Moves::ended_by))]
 pub fn ended(came: Moved, at: usize) -> Result<usize, i32>

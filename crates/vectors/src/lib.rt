@@ -10,7 +10,7 @@ use refusal::Refusal;
 
 pub mod inner;
 
-// The value of a hex digit; any other byte counts as 0.
+// The value of a hex digit; any other byte counts as 0, since `word_at` takes any bytes for digits.
 fn value(digit: u8) -> u32
     ensures { (result ≡ value_of digit) × (result < 16) }
 {
@@ -25,7 +25,8 @@ fn four_at(text: &[u8], at: usize) -> u32
     (high * 16 + value(text[at + 2])) * 16 + value(text[at + 3])
 }
 
-// The word that eight digits spell; 0 where the text ends before the last of them.
+// The word that eight digits spell; 0 where the text ends before the last of them. It takes a text and a place, as its definition does: `Words`
+// is made of it.
 pub fn word_at(text: &[u8], at: usize) -> u32
     ensures { result ≡ word_at text.now at }
 {
@@ -46,7 +47,7 @@ fn digit(value: u32) -> u8
     }
 }
 
-// The eight digits of a word.
+// The eight digits of a word, one by one as `hex_of` has them; `format!` needs a heap.
 pub fn hex(word: u32) -> [u8; 8]
     ensures { (result ≡ hex_of word) × (8 ≡ length result) }
 {

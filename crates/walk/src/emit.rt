@@ -77,7 +77,8 @@ fn shifted(word: u32, least: u32) -> u32
     (from_word(word) - from_word(least)) as u32
 }
 
-// The least x of a run is that of its first record; where there is none, a number above every word.
+// The least x of a run is that of its first record; where there is none, a number above every word, as the definition
+// has it: an Option would be taken apart at each use, where this is lesser than none.
 fn least_x(work: &[u32], run: Run) -> u32
     requires { Ascending work.now run }
     ensures { result ≡ least_x work.now run }
@@ -178,7 +179,7 @@ fn holes_of(work: &mut [u32], run: Run, y: u32) -> u32
     gaps_of(work, run, y)
 }
 
-// Three words as a record of a list.
+// Three words as a record of a list, in the words of `pasted`.
 fn store(list: &mut [u32], place: usize, a: u32, b: u32, c: u32)
     requires { 3 * place + 2 < length list.old }
     ensures { list.new ≡ pasted (3 * place) (a ∷ b ∷ c ∷ []) list.old }

@@ -1,5 +1,5 @@
 // Rows of a component at the front of the workspace, a word each: the least and the greatest x of a row's records.
-// The caller clears the words first: 0 is a row without records, and no x lies between its two halves.
+// The caller clears the words first, which are the workspace's: 0 is a row without records, and no x lies between its two halves.
 ghost use Rattle.std.specs.Prelude.{◌≡◌, cond, ℕ, ◌+◌, ◌-◌, ◌≤◌, ◌<◌, length, get_or, set};
 ghost use Rattle.cells.specs.Sums.{how_many};
 ghost use Rattle.walk.specs.inner.Rows.{noted_of, tells_around};

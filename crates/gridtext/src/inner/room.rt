@@ -1,5 +1,5 @@
 // The sizes of a text's lists: how many lines a text may have, how many words a line gives, and what room is kept for a
-// frame and its answer. The specs have the same names.
+// frame and its answer, since there is no heap. The specs have the same names.
 
 // C lines and T lines of a text, at most.
 pub const MOST_CORNER_LINES: usize = 128;

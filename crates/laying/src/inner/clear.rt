@@ -6,7 +6,7 @@ ghost use Rattle.laying.specs.inner.Answers.{Wiped, Cleared};
 
 use crate::inner::sheet::Sheet;
 
-// Corner c has no words.
+// Corner c has no words, in any workspace with room for the region.
 pub fn wipe(work: &mut [u32], span: usize, c: usize)
     requires { (4 * span ≤ length work.old) × (c < span) × (span ≤ most_corners) }
     ensures { work.new ≡ set (set work.old (2 * span + c) 0) (3 * span + c) 0 }

@@ -47,7 +47,7 @@ pub(crate) struct Head {
     pub start: usize,
 }
 
-// Where the text goes on after so many words.
+// Where the text goes on after so many words. This and the next two are what `Words` is made of, and take the text and a place.
 #[tactic(auto, unfolding(crate::specs::inner::Lists::after_of))]
 pub(crate) fn after(text: &[u8], at: usize, count: usize) -> usize
     requires { at ≤ length text.now }

@@ -69,7 +69,7 @@ pub fn write_runs<W: Write>(out: &mut W, list: &[u32]) -> Result<usize>
     Ok(runs)
 }
 
-// How many digits it wrote.
+// How many digits it wrote, which `write!` doesn't tell.
 fn write_decimal<W: Write>(out: &mut W, n: u32) -> Result<usize>
     ensures len { IfOk result (λ places. (places ≡ length (decimal_of n)) × (places ≤ 10)) }
     ensures bytes { OnOk result (Appends (W.contents out.old) (W.contents out.new) (decimal_of n)) }
