@@ -1,5 +1,5 @@
-// The answers of the calls as numbers that cross the boundary, each by its definition: C has no enum with values in it, so that what is refused
-// or missing is a number with a value beside it, and each struct has its own fields.
+// The answers of the calls as numbers that cross the boundary, each by its definition: C has no enum with values in it, so that what is
+// refused or missing is a number with a value beside it, and each struct has its own fields.
 ghost use Rattle.std.specs.Prelude.{◌≡◌};
 ghost use Rattle.measure.specs.Answers.{measured_told, distance_told};
 ghost use Rattle.axis.specs.Cache.{cached_told};

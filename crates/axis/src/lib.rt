@@ -15,8 +15,8 @@ pub enum Spread {
     Known(f32),
 }
 
-// What makes a spread informative: by which rule, 1 or 2, and below which limit. The rule is a number and no enum, since callers may give any:
-// row 18 refuses the others, and does so behind row 3.
+// What makes a spread informative: by which rule, 1 or 2, and below which limit. The rule is a number and no enum, since callers may give
+// any: row 18 refuses the others, and does so behind row 3.
 #[derive(Clone, Copy, Debug, PartialEq)]
 pub struct SpreadRule {
     pub number: u32,

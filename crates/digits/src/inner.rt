@@ -14,8 +14,8 @@ pub fn value(byte: u8) -> Option<u32>
     }
 }
 
-// Writes the decimal digits of n from `at` on; answers where they end. By hand, since it writes to a part of a lent text; the text and a place,
-// since the clause tells the whole of it.
+// Writes the decimal digits of n from `at` on; answers where they end. By hand, since it writes to a part of a lent text; the text and a
+// place, since the clause tells the whole of it.
 pub fn put_decimal(out: &mut [u8], at: usize, n: u32) -> usize
     requires { at + length (decimal_of n) ≤ length out.old }
     ensures { (result ≡ at + length (decimal_of n)) × (out.new ≡ take at out.old ++ (decimal_of n ++ drop result out.old)) }

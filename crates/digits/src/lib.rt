@@ -68,7 +68,8 @@ fn run_at(text: &[u8], at: usize, base: u32, most: usize) -> Run
     Run { value, count: most }
 }
 
-// This and `decimal_at` take the text and a place, not the rest of it: `Takes` speaks of places. Eight upper-case hex digits from `at` on, then the end.
+// This and `decimal_at` take the text and a place, not the rest of it: `Takes` speaks of places. Eight upper-case hex digits from `at` on,
+// then the end.
 pub fn hex_at(text: &[u8], at: usize, end: End) -> Option<Taken<u32>>
     ensures { Takes hex_of text.now at (end_byte end) result }
 {

@@ -101,7 +101,8 @@ fn judge_quad(work: &mut [u32], span: usize, n: usize, s: usize, runs: Runs, par
     store_runs(work, span, n, s, runs);
 }
 
-// Every quad in order. Records of all corners and of the lone ones are in the order of the quads, so that each run begins where the last ended.
+// Every quad in order. Records of all corners and of the lone ones are in the order of the quads, so that each run begins where the last
+// ended.
 pub(crate) fn judge_groups(
     work: &mut [u32],
     span: usize,

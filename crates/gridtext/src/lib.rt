@@ -14,8 +14,8 @@ use inner::room;
 
 pub mod inner;
 
-// A text that was read: the parameters of its P line, and how many C and T lines it has. The lines' words stand in lists of a fixed room, which
-// is lent: no heap.
+// A text that was read: the parameters of its P line, and how many C and T lines it has. The lines' words stand in lists of a fixed room,
+// which is lent: no heap.
 #[derive(Drop)]
 pub struct FrameRead {
     pub params: Params,

@@ -1,5 +1,5 @@
-// Words for corners: a corner takes them when it has none, and else says whether it has the same. The workspace, the span and a corner go one by
-// one: what is asked of them speaks of the list, which is written.
+// Words for corners: a corner takes them when it has none, and else says whether it has the same. The workspace, the span and a corner go
+// one by one: what is asked of them speaks of the list, which is written.
 ghost use Rattle.std.specs.Prelude.{◌≡◌, ◌≢◌, ◌*◌, ◌≤◌, ◌<◌, length};
 ghost use Rattle.mesh.specs.Lists.{most_corners};
 ghost use Rattle.laying.specs.inner.Layout.{first_word, second_word};

@@ -1,6 +1,6 @@
 // A text read whole from a reader, and a text written whole. What a descriptor gives or takes no contract can say; where a reader's bytes
-// are known, or a writer's, as over memory, the contracts say what becomes of them. `outcome` fixes what is made of each call's answer. A call
-// that fails tells the error of its errno, which is 0 where the system gave it none; of a write that takes nothing see `write_whole`.
+// are known, or a writer's, as over memory, the contracts say what becomes of them. `outcome` fixes what is made of each call's answer. A
+// call that fails tells the error of its errno, which is 0 where the system gave it none; of a write that takes nothing see `write_whole`.
 ghost use Rattle.std.specs.Prelude.{◌≡◌, ◌≤◌, ◌<◌, ◌^◌, length, Ok, IfOk, OnOk};
 ghost use Rattle.std.specs.Io.{ReadsAtMost};
 ghost use Rattle.std.specs.Io.KnownBytes.{Appends};
@@ -70,8 +70,8 @@ fn write_some<W: Write>(writer: &mut W, part: &[u8], errno: &mut i32) -> Moved
     Moved::Interrupted
 }
 
-// Reads until the input ends or the list is full; answers how many bytes that is. A read that fails is a failure, however much came before it.
-// The place goes on by what a call moved.
+// Reads until the input ends or the list is full; answers how many bytes that is. A read that fails is a failure, however much came before
+// it. The place goes on by what a call moved.
 pub fn read_whole<R: Read>(reader: &mut R, list: &mut [u8]) -> Result<usize>
     ensures front { ReadsAtMost result list.new }
     ensures bytes { WholeRead result (R.remaining reader.old) (R.remaining reader.new) list.new }

@@ -20,8 +20,8 @@ pub enum Moved {
     Failed(i32),
 }
 
-// What a call came to that was to move a part's bytes, by its answer and by errno. Both are numbers as the system has them, and this a call of
-// its own (docs/CALLS.md): its definition is over them.
+// What a call came to that was to move a part's bytes, by its answer and by errno. Both are numbers as the system has them, and this a call
+// of its own (docs/CALLS.md): its definition is over them.
 pub fn outcome(got: isize, error: i32, part: &[u8]) -> Moved
     ensures { result ≡ outcome_of got error (length part.now) }
 {
@@ -38,8 +38,8 @@ pub fn outcome(got: isize, error: i32, part: &[u8]) -> Moved
     Moved::Some(n)
 }
 
-// A call of its own too, over errno. What a reader came to that has so many bytes, by a call that moved none: the whole where the input ended, and else a failure, by its errno,
-// however much came before it.
+// A call of its own too, over errno. What a reader came to that has so many bytes, by a call that moved none: the whole where the input
+// ended, and else a failure, by its errno, however much came before it.
 #[tactic(auto, unfolding(crate::specs::Moves::ended_by))]
 pub fn ended(came: Moved, at: usize) -> Result<usize, i32>
     ensures { result ≡ ended_by came at }

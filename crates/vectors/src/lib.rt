@@ -25,8 +25,8 @@ fn four_at(text: &[u8], at: usize) -> u32
     (high * 16 + value(text[at + 2])) * 16 + value(text[at + 3])
 }
 
-// The word that eight digits spell; 0 where the text ends before the last of them. It takes a text and a place, as its definition does: `Words`
-// is made of it.
+// The word that eight digits spell; 0 where the text ends before the last of them. It takes a text and a place, as its definition does:
+// `Words` is made of it.
 pub fn word_at(text: &[u8], at: usize) -> u32
     ensures { result ≡ word_at text.now at }
 {

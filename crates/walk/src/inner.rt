@@ -1,6 +1,6 @@
 // What follows once every group has its fate, for each call that labels: counting, and apart from it rows 9 and 10, writing, zeroing, so that
-// a caller may know the counts and write nothing. The lists go one by one: each is lent for itself, by C too. `Writable` is what `compute` of `fates` has left, over quads that the rows of the calls
-// above let through.
+// a caller may know the counts and write nothing. The lists go one by one: each is lent for itself, by C too. `Writable` is what `compute`
+// of `fates` has left, over quads that the rows of the calls above let through.
 ghost use Rattle.std.specs.Prelude.{◌≡◌};
 ghost use Rattle.walk.specs.Call.{Outcome, outcome_in};
 ghost use Rattle.walk.specs.inner.Emitted.{out_to};

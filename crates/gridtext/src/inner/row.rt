@@ -104,8 +104,8 @@ pub(crate) fn pair_at(text: &[u8], at: usize, first: u8, second: u8) -> bool
     at <= text.len() && text[at..].starts_with(&[first, second])
 }
 
-// A word that was taken, as a field of one word. This and `marked_word`, `spread_at` and `twin_at`, are told by their own fields: one function
-// over what makes a field would have to say in its clauses what a closure makes.
+// A word that was taken, as a field of one word. This and `marked_word`, `spread_at` and `twin_at`, are told by their own fields: one
+// function over what makes a field would have to say in its clauses what a closure makes.
 fn one_word(taken: Option<Taken<u32>>) -> Option<(Few, usize)>
     ensures { result ≡ found_of Few.One taken }
 {

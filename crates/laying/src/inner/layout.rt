@@ -1,5 +1,5 @@
-// Where the walks keep what in the workspace, past the four regions of `span` words at its front, as specs/inner/Layout and the crates above say:
-// how many words for each quad stand before it. And how two numbers make one word of a record.
+// Where the walks keep what in the workspace, past the four regions of `span` words at its front, as specs/inner/Layout and the crates
+// above say: how many words for each quad stand before it. And how two numbers make one word of a record.
 
 // The place where the run of each side begins.
 pub const RUNS: usize = 8;
