@@ -2,8 +2,8 @@
 // words. It writes the proved call's answer to each case, and the gate compares what it wrote with the oracle's answers.
 #![tactic(auto)]
 
-use std::io;
 use std::rt::{HostRuntime, Stdout};
+use std::{env, io};
 use vectors::inner::words::Words;
 use vectors::inner::{cases, files};
 
@@ -28,5 +28,11 @@ fn case(out: &mut Stdout, kind: u32, words: &mut Words<'_>) -> io::Result<bool> 
 }
 
 fn main(rt: HostRuntime) -> io::Result<()> {
-    files(&rt, |out, text| cases(out, text, case))
+    let count = env::args(&rt)?.len();
+    files(
+        &rt,
+        &mut rt.stdout(),
+        count,
+        |out, text| cases(out, text, case),
+    )
 }

@@ -1,6 +1,6 @@
 // A file of vectors read whole, and a program over files and their cases. `words` takes words and lists from a text, `list` has a list's
 // elements, and `runs` writes lists and answers as lines.
-ghost use Rattle.std.specs.Prelude.{◌≡◌, ◌<◌, length, Ok, OnOk};
+ghost use Rattle.std.specs.Prelude.{◌≡◌, ◌<◌, ◌≤◌, length, Ok, OnOk};
 ghost use Rattle.std.specs.Io.{ReadsAtMost};
 ghost use Rattle.std.specs.Io.KnownBytes.{Appends};
 ghost use Rattle.vectors.specs.inner.Lines.{heading};
@@ -9,10 +9,9 @@ pub mod list;
 pub mod runs;
 pub mod words;
 
-use std::env;
 use std::fs::File;
 use std::io::{Error, ErrorKind, Result, Write};
-use std::rt::{Env, Files, HostRuntime, Stdout};
+use std::rt::{Env, Files};
 use std::str::from_utf8;
 use streams::inner::read_whole;
 use words::Words;
@@ -50,9 +49,9 @@ pub fn load_argument<R: Env + Files, W: Write>(
     load(rt, out, &name[..length], text)
 }
 
-fn file<F: Fn(&mut Stdout, &[u8]) -> Result<()>>(
-    rt: &HostRuntime,
-    out: &mut Stdout,
+fn file<R: Env + Files, W: Write, F: Fn(&mut W, &[u8]) -> Result<()>>(
+    rt: &R,
+    out: &mut W,
     i: usize,
     replay: &F,
 ) -> Result<()>
@@ -63,14 +62,19 @@ fn file<F: Fn(&mut Stdout, &[u8]) -> Result<()>>(
     replay(out, &text[..n])
 }
 
-// A whole program: what `replay` writes of each file that an argument names, behind the file's heading. It has no clause on its answer: no
-// contract can say what arguments there are, what a file holds, or what standard output got.
-pub fn files<F: Fn(&mut Stdout, &[u8]) -> Result<()>>(rt: &HostRuntime, replay: F) -> Result<()>
+// A whole program: what `replay` writes of each file that one of so many arguments names, behind the file's heading. The first argument is
+// the program's own name, so that where there is no other nothing is written; what a file holds no contract can say.
+pub fn files<R: Env + Files, W: Write, F: Fn(&mut W, &[u8]) -> Result<()>>(
+    rt: &R,
+    out: &mut W,
+    arguments: usize,
+    replay: F,
+) -> Result<()>
     requires { F.IsAlwaysCallable replay }
+    ensures { arguments ≤ 1 → (result ≡ Ok tt) × (out.new ≡ out.old) }
 {
-    let mut out = rt.stdout();
-    for i in 1..env::args(rt)?.len() {
-        file(rt, &mut out, i, &replay)?;
+    for i in 1..arguments {
+        file(rt, out, i, &replay)?;
     }
     Ok(())
 }
