@@ -64,17 +64,29 @@ fn greater(start: f32, end: f32) -> f32
 pub(crate) fn judge_side(side: Side, tolerance: f32) -> Judged
     ensures { result ≡ judged_of tolerance side }
 {
-    let Some(start) = side.start else {
+    let Some(
+        Near {
+            slot: start_slot,
+            distance: start_distance,
+        },
+    ) = side.start
+    else {
         return Judged::Spurious;
     };
-    let Some(end) = side.end else {
+    let Some(
+        Near {
+            slot: end_slot,
+            distance: end_distance,
+        },
+    ) = side.end
+    else {
         return Judged::Spurious;
     };
-    if start.distance < tolerance && end.distance < tolerance {
+    if start_distance < tolerance && end_distance < tolerance {
         Judged::Grid(GridSide {
-            start: start.slot,
-            end: end.slot,
-            fit: greater(start.distance, end.distance),
+            start: start_slot,
+            end: end_slot,
+            fit: greater(start_distance, end_distance),
         })
     } else {
         Judged::Spurious

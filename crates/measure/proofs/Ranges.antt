@@ -1,6 +1,6 @@
 -- The code's tests of a range are the ranges of the definitions: finite, above zero, equal to zero, within a magnitude. Assumes nothing.
 use mathlib.Core.Path.{◌≡◌, refl, sym, ◌∙◌}
-use mathlib.Core.Bool.{Bool, true, false, not, ◌&&◌, ◌||◌, and-true}
+use mathlib.Core.Bool.{Bool, true, false, cond, not, ◌&&◌, ◌||◌, and-true}
 use Prim.Native.Nat.{ℕ, zero, suc, ◌+◌, ◌*◌, ◌<◌}
 use native.Mathlib.Nat.{mul-pos, zero-lt-suc}
 use native.Mathlib.Omega.{arith}
@@ -11,16 +11,23 @@ use lib.Ieee.{Float, nan, inf, fin, binary32, of_bits, le, lt, eq, neg, up, down
 use lib.Ieee.Fits.{up_pos}
 use lib.Ieee.Positive.{positive}
 use lib.Ieee.Scale.{finite}
-use Rattle.std.specs.Float.{float_is_finite}
 use Rattle.measure.specs.Float.{sign_of, within}
 
-pub finite_is : (x : Float) → float_is_finite x ≡ finite x
-unfolding float_is_finite
-finite_is nan = refl
-finite_is (inf s) = refl
-finite_is (fin s m e) = refl
+-- the two infinities as the code names them
+abbrev most : Float
+most = of_bits binary32 0x7f80_0000
 
-pub positive_by : (x : Float) → (lt (of_bits binary32 0) x && finite x) ≡ positive x
+abbrev least : Float
+least = of_bits binary32 0xff80_0000
+
+pub finite_by : (x : Float) → cond (lt x most) (lt least x) false ≡ finite x
+unfolding lt of_bits
+finite_by nan = refl
+finite_by (inf true) = refl
+finite_by (inf false) = refl
+finite_by (fin s m e) = refl
+
+pub positive_by : (x : Float) → cond (lt (of_bits binary32 0) x) (lt x most) false ≡ positive x
 unfolding lt of_bits
 positive_by nan = refl
 positive_by (inf true) = refl

@@ -9,7 +9,7 @@ ghost use Rattle.measure.specs.Position.{in_reach};
 pub(crate) fn is_positive(x: f32) -> bool
     ensures { result ≡ positive x }
 {
-    x > 0.0 && x.is_finite()
+    x > 0.0 && x < f32::INFINITY
 }
 
 // x is finite and its magnitude is at most `most`, which its two callers give as a number above 0. `x.abs() <= most` was tried: row 4

@@ -1,4 +1,6 @@
 // Kind 4: the quads that the filters keep.
+ghost use Rattle.std.specs.Prelude.{◌≡◌, ◌≤◌};
+
 use filter::{FilterParams, filter_quads};
 use measure::inner::float_of;
 use mesh::Positions;
@@ -18,7 +20,10 @@ fn write_answer(out: &mut Stdout, answer: Result<u32, Refusal>) -> io::Result<us
 }
 
 // The ratio, the least and the greatest.
-fn params(words: &mut Words<'_>) -> FilterParams {
+fn params(words: &mut Words<'_>) -> FilterParams
+    ensures text { words.new.text.now ≡ words.old.text.now }
+    ensures onward { words.old.at ≤ words.new.at }
+{
     FilterParams {
         ratio: float_of(words.word()),
         least: float_of(words.word()),
@@ -28,7 +33,10 @@ fn params(words: &mut Words<'_>) -> FilterParams {
 
 // The quads are said over up to so many words.
 // The lists stand at the fronts of arrays, each with its length beside it: there is no heap.
-pub(crate) fn replay(out: &mut Stdout, words: &mut Words<'_>) -> io::Result<()> {
+pub(crate) fn replay(out: &mut Stdout, words: &mut Words<'_>) -> io::Result<()>
+    ensures text { words.new.text.now ≡ words.old.text.now }
+    ensures onward { words.old.at ≤ words.new.at }
+{
     let mut x = [0.0f32; 4097];
     let mut y = [0.0f32; 4097];
     let mut quads = [0u32; 16392];

@@ -1,4 +1,6 @@
 // Kinds 6 and 9: the components of a whole frame, and their entries, by rule 1 or by the rule given.
+ghost use Rattle.std.specs.Prelude.{◌≡◌, ◌≤◌};
+
 use axis::{Axes, SpreadRule};
 use classify::EdgeParams;
 use fates::LabelParams;
@@ -12,7 +14,10 @@ use told::inner::{lend, write_told};
 use vectors::inner::words::Words;
 
 // The tolerance, the ratio, the least, the greatest, the spread limit, the least quads and the least corners.
-fn params(words: &mut Words<'_>, rule: u32) -> Params {
+fn params(words: &mut Words<'_>, rule: u32) -> Params
+    ensures text { words.new.text.now ≡ words.old.text.now }
+    ensures onward { words.old.at ≤ words.new.at }
+{
     let tolerance = float_of(words.word());
     let filters = FilterParams {
         ratio: float_of(words.word()),
@@ -41,7 +46,10 @@ fn label(
     words: &mut Words<'_>,
     frame: Frame<'_>,
     params: Params,
-) -> io::Result<()> {
+) -> io::Result<()>
+    ensures text { words.new.text.now ≡ words.old.text.now }
+    ensures onward { words.old.at ≤ words.new.at }
+{
     let mut work = [0u32; 65712];
     let mut components = [0u32; 12300];
     let mut entries = [0u32; 49164];
@@ -56,7 +64,10 @@ fn label(
 
 // The parameters, the positions, the axes, two to a corner, and the half-edges; then the rest.
 // The lists stand at the fronts of arrays, each with its length beside it: there is no heap.
-pub(crate) fn replay(out: &mut Stdout, words: &mut Words<'_>, rule: u32) -> io::Result<()> {
+pub(crate) fn replay(out: &mut Stdout, words: &mut Words<'_>, rule: u32) -> io::Result<()>
+    ensures text { words.new.text.now ≡ words.old.text.now }
+    ensures onward { words.old.at ≤ words.new.at }
+{
     let params = params(words, rule);
     let mut x = [0.0f32; 4104];
     let mut y = [0.0f32; 4104];

@@ -1,4 +1,6 @@
 // Kind 5: the components of a list of quads, and their entries.
+ghost use Rattle.std.specs.Prelude.{◌≡◌, ◌≤◌};
+
 use fates::LabelParams;
 use std::io;
 use std::io::Stdout;
@@ -8,7 +10,10 @@ use vectors::inner::words::Words;
 use walk::label_components;
 
 // The least quads and the least corners.
-fn params(words: &mut Words<'_>) -> LabelParams {
+fn params(words: &mut Words<'_>) -> LabelParams
+    ensures text { words.new.text.now ≡ words.old.text.now }
+    ensures onward { words.old.at ≤ words.new.at }
+{
     LabelParams {
         quads: words.word(),
         corners: words.word(),
@@ -17,7 +22,10 @@ fn params(words: &mut Words<'_>) -> LabelParams {
 
 // The quads are said over up to so many words.
 // The lists stand at the fronts of arrays, each with its length beside it: there is no heap.
-pub(crate) fn replay(out: &mut Stdout, words: &mut Words<'_>) -> io::Result<()> {
+pub(crate) fn replay(out: &mut Stdout, words: &mut Words<'_>) -> io::Result<()>
+    ensures text { words.new.text.now ≡ words.old.text.now }
+    ensures onward { words.old.at ≤ words.new.at }
+{
     let mut quads = [0u32; 16392];
     let mut work = [0u32; 196656];
     let mut components = [0u32; 12300];

@@ -1,4 +1,6 @@
 // Kinds 1 and 7: the axis cache of one corner, by rule 1 or by the rule given.
+ghost use Rattle.std.specs.Prelude.{◌≡◌, ◌≤◌};
+
 use axis::inner::spread_from;
 use axis::{AxisCache, SpreadRule};
 use measure::inner::{float_of, word_of};
@@ -9,8 +11,8 @@ use vectors::inner::runs::write_refusal;
 use vectors::inner::words::Words;
 
 fn write_mark(out: &mut Stdout, mark: bool) -> io::Result<()> {
-    let mark = u32::from(mark);
-    write!(out, " {mark}")
+    // one write: `write!` makes one of the blank and one of the number
+    out.write_all(if mark { b" 1" } else { b" 0" })
 }
 
 fn write_cache(out: &mut Stdout, cache: AxisCache) -> io::Result<()> {
@@ -24,7 +26,10 @@ fn write_cache(out: &mut Stdout, cache: AxisCache) -> io::Result<()> {
 }
 
 // Angle, mark and spread of slot 0, the same of slot 1, and the limit.
-pub(crate) fn replay(out: &mut Stdout, words: &mut Words<'_>, rule: u32) -> io::Result<()> {
+pub(crate) fn replay(out: &mut Stdout, words: &mut Words<'_>, rule: u32) -> io::Result<()>
+    ensures text { words.new.text.now ≡ words.old.text.now }
+    ensures onward { words.old.at ≤ words.new.at }
+{
     let angle0 = float_of(words.word());
     let spread0 = spread_from(words.word(), float_of(words.word()));
     let angle1 = float_of(words.word());

@@ -1,4 +1,6 @@
 // Kinds 2 and 8: the classes of a frame's half-edges, by rule 1 or by the rule given. Kind 10: their classes and fits, by the rule given.
+ghost use Rattle.std.specs.Prelude.{◌≡◌, ◌≤◌};
+
 use axis::{Axes, SpreadRule};
 use classify::EdgeParams;
 use measure::inner::{float_of, word_of};
@@ -64,7 +66,10 @@ pub(crate) fn alone(
     _words: &mut Words<'_>,
     given: Given<'_>,
     classes: &mut [u32],
-) -> io::Result<()> {
+) -> io::Result<()>
+    ensures text { _words.new.text.now ≡ _words.old.text.now }
+    ensures onward { _words.old.at ≤ _words.new.at }
+{
     let mut fits = [0.0f32; 24580];
     let n = given.triangles.len().min(fits.len());
     classify(out, given, classes, &mut fits[..n])
@@ -76,7 +81,10 @@ pub(crate) fn with_fits(
     words: &mut Words<'_>,
     given: Given<'_>,
     classes: &mut [u32],
-) -> io::Result<()> {
+) -> io::Result<()>
+    ensures text { words.new.text.now ≡ words.old.text.now }
+    ensures onward { words.old.at ≤ words.new.at }
+{
     let mut fits = [0.0f32; 24580];
     let n = words.fill(&mut fits);
     classify(out, given, classes, &mut fits[..n])?;
@@ -84,7 +92,10 @@ pub(crate) fn with_fits(
 }
 
 // The tolerance and the spread limit.
-fn params(words: &mut Words<'_>, rule: u32) -> EdgeParams {
+fn params(words: &mut Words<'_>, rule: u32) -> EdgeParams
+    ensures text { words.new.text.now ≡ words.old.text.now }
+    ensures onward { words.old.at ≤ words.new.at }
+{
     let tolerance = float_of(words.word());
     let spread = SpreadRule {
         number: rule,
@@ -101,7 +112,10 @@ pub(crate) fn replay<F: Fn(&mut Stdout, &mut Words<'_>, Given<'_>, &mut [u32]) -
     rule: u32,
     end: F,
 ) -> io::Result<()>
-    requires { F.IsAlwaysCallable end }
+    requires callable { F.IsAlwaysCallable end }
+    requires moves_on { (o : _) (w : _) (g : _) (c : _) (r : _) (o' : _) (w' : _) (c' : _) → F.post end o w g c r o' w' c' → (w'.now.text.now ≡ w.now.text.now) × (w.now.at ≤ w'.now.at) }
+    ensures text { words.new.text.now ≡ words.old.text.now }
+    ensures onward { words.old.at ≤ words.new.at }
 {
     let params = params(words, rule);
     let mut x = [0.0f32; 4097];

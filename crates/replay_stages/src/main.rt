@@ -2,6 +2,8 @@
 // words. It writes the proved call's answer to each case, and the gate compares what it wrote with the oracle's answers.
 #![tactic(auto)]
 
+ghost use Rattle.std.specs.Prelude.{◌≡◌, ◌≤◌};
+
 use std::rt::{HostRuntime, Stdout};
 use std::{env, io};
 use vectors::inner::words::Words;
@@ -12,7 +14,10 @@ mod classes_case;
 mod quads_case;
 
 // One case, where its kind is known; kinds 7 and 8 are 1 and 2 behind the number of a rule, 10 is 8 with fits.
-fn case(out: &mut Stdout, kind: u32, words: &mut Words<'_>) -> io::Result<bool> {
+fn case(out: &mut Stdout, kind: u32, words: &mut Words<'_>) -> io::Result<bool>
+    ensures text { words.new.text.now ≡ words.old.text.now }
+    ensures onward { words.old.at ≤ words.new.at }
+{
     let rule = match kind {
         7 | 8 | 10 => words.word(),
         _ => 1,

@@ -1,4 +1,6 @@
 // Kind 3: the quads of a mesh.
+ghost use Rattle.std.specs.Prelude.{◌≡◌, ◌≤◌};
+
 use mesh::Positions;
 use quads::Mesh;
 use refusal::Refusal;
@@ -17,7 +19,10 @@ fn write_answer(out: &mut Stdout, answer: Result<u32, Refusal>) -> io::Result<us
 
 // The corners, the mesh and the room for quads.
 // The lists stand at the fronts of arrays, each with its length beside it: there is no heap.
-pub(crate) fn replay(out: &mut Stdout, words: &mut Words<'_>) -> io::Result<()> {
+pub(crate) fn replay(out: &mut Stdout, words: &mut Words<'_>) -> io::Result<()>
+    ensures text { words.new.text.now ≡ words.old.text.now }
+    ensures onward { words.old.at ≤ words.new.at }
+{
     let mut x = [0.0f32; 4097];
     let mut y = [0.0f32; 4097];
     let mut triangles = [0u32; 24579];

@@ -2,6 +2,8 @@
 // for each, by `gridtext::answer`, and the gate compares what it wrote with the oracle's answers.
 #![tactic(auto)]
 
+ghost use Rattle.std.specs.Prelude.{◌≡◌, ◌≤◌};
+
 use std::io::Write;
 use std::rt::{HostRuntime, Stdout};
 use std::{env, io};
@@ -16,7 +18,10 @@ fn replay(out: &mut Stdout, text: &[u8]) -> io::Result<()> {
 
 // One text: its length, which stands where other files have a case's kind, a line feed, its bytes, a line feed. One that goes past the
 // file's end ends the file.
-fn case(out: &mut Stdout, size: u32, words: &mut Words<'_>) -> io::Result<bool> {
+fn case(out: &mut Stdout, size: u32, words: &mut Words<'_>) -> io::Result<bool>
+    ensures text { words.new.text.now ≡ words.old.text.now }
+    ensures onward { words.old.at ≤ words.new.at }
+{
     let Some(text) = words.bytes(size as usize) else {
         return Ok(false);
     };

@@ -1,17 +1,20 @@
--- What `outcome_of` is by the tests of the code: the answer below 0 or not, errno 4 or not, the count 0 or not. Assumes nothing.
+-- What `outcome_of` is by the tests of the code (the answer below 0 or not, errno 4 or not, the count 0 or not), and that it moves no more
+-- bytes than there were. Assumes nothing.
 use mathlib.Core.Path.{◌≡◌, refl, sym, ap, ◌∙◌}
-use mathlib.Core.Bool.{true, false}
-use Prim.Native.Nat.{ℕ}
+use mathlib.Core.Bool.{Bool, true, false, cond}
+use Prim.Native.Nat.{ℕ, ◌≤◌, min}
 use native.Mathlib.Omega.{arith}
 use lib.IntN.{ℤ, pos, negsuc}
 use lib.Signed.{lt_z}
+use lib.Dec.{eqb}
 use mir.Syntax.{w32}
 use mir.Val.{SFits, to_z, of_z}
 use mir.Facts.{to_z-of_z}
-use borrow.Author.Tests.{ltb-true, ne_eqb}
+use borrow.Author.Tests.{ltb-true, ne_eqb, eqb-false}
 use Rattle.io.specs.Counts.{clamp_len}
+use Rattle.streams.specs.declared.Moved.{Moved}
 use Rattle.streams.specs.declared.Moved.TheVariants.{Some, Nothing, Interrupted, Failed}
-use Rattle.streams.specs.Moves.{failure_of, moved_of, outcome_of}
+use Rattle.streams.specs.Moves.{failure_of, moved_of, outcome_of, MovedWithin}
 
 below : (got error : ℤ) (most : ℕ) → lt_z got (pos 0) ≡ true → outcome_of got error most ≡ failure_of error
 unfolding outcome_of
@@ -46,3 +49,19 @@ nothing got error most n b is e = sym (not_below_lem got error most b ∙ ap mov
 pub some : (got error : ℤ) (most n : ℕ) → lt_z got (pos 0) ≡ false → n ≡ clamp_len got most → (n ≡ 0 → ⊥) → Some n ≡ outcome_of got error most
 unfolding moved_of
 some got error most n b is ne = sym (not_below_lem got error most b ∙ ap moved_of (sym is) ∙ rw (ne_eqb n 0 ne))
+
+-- ---- a call moves no more bytes than there were, and at least one where it says that it moved some
+
+counted : (n most : ℕ) → n ≤ most → (t : Bool) → eqb n 0 ≡ t → MovedWithin most (cond t Nothing (Some n))
+counted n most h true e = tt
+counted n most h false e = (omega (arith, eqb-false n 0 e), h)
+
+not_moved : (most : ℕ) (error : ℤ) (t : Bool) → MovedWithin most (cond t Interrupted (Failed error))
+not_moved most error true = tt
+not_moved most error false = tt
+
+pub within : (got error : ℤ) (most : ℕ) → MovedWithin most (outcome_of got error most)
+unfolding outcome_of failure_of moved_of
+within (pos n) error most = counted (min n most) most (omega arith) _ refl
+within (negsuc n) (negsuc e) most = tt
+within (negsuc n) (pos e) most = not_moved most (pos e) (eqb e 4)

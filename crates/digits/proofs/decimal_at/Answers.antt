@@ -7,14 +7,14 @@ use Rattle.digits.proofs.Forms.{no_decimal, run_within, spare, none_spare, decim
 use Rattle.digits.proofs.decimal_at.Goals as goal
 use Rattle.digits.proofs.decimal_at.Goals.{else-is_long-via-then-is_long+else-text-at-eq48, else-is_long-via-else-is_long}
 
--- what the conversion to a word says of a number
-word_told : {E : Type 0} (r : Result ℕ E) (n v : ℕ) → OkIff r (n < words) n → Some v ≡ result_ok r → (n < words) × (v ≡ n)
-word_told (Ok x) n v h e = (h.0, cc)
-word_told (Err why) n v h e = cc
+-- what the conversion to a word says of the number converted, which is the run's
+word_told : {E : Type 0} (r : Result ℕ E) (n v value : ℕ) → OkIff r (n < words) n → Some v ≡ result_ok r → n ≡ value → (value < words) × (v ≡ value)
+word_told (Ok x) n v value h e is = (omega (arith, h.0, is), cc)
+word_told (Err why) n v value h e is = cc
 
-no_word : {E : Type 0} (r : Result ℕ E) (n : ℕ) → OkIff r (n < words) n → None ≡ result_ok r → n < words → ⊥
-no_word (Ok x) n h e = cc
-no_word (Err why) n h e = h
+no_word : {E : Type 0} (r : Result ℕ E) (n value : ℕ) → OkIff r (n < words) n → None ≡ result_ok r → n ≡ value → value < words → ⊥
+no_word (Ok x) n value h e is w = cc
+no_word (Err why) n value h e is w = h (omega (arith, is, w))
 
 pub returns-then-count-eq0 : goal.returns-then-count-eq0
 returns-then-count-eq0 c = no_decimal c.args.end c.run_at-value.ensures (λ f w l g. omega (arith, f.0))
@@ -36,12 +36,12 @@ returns-then-text-at-eq48 c = no_decimal c.args.end c.run_at-value.ensures (λ f
 
 pub returns-in_err-ok : goal.returns-in_err-ok
 returns-in_err-ok c =
-    rw c.from_residual-in_err-ok.ensures (no_decimal c.args.end c.run_at-value.ensures (λ f w l g. no_word _ _ c.try_from.ensures c.in_err-ok.ensures.value w))
+    rw c.from_residual-in_err-ok.ensures (no_decimal c.args.end c.run_at-value.ensures (λ f w l g. no_word _ _ _ c.try_from.ensures c.in_err-ok.ensures.value (omega arith) w))
 
 pub returns : goal.returns
 returns c =
     let r = c.run_at-value.ensures in
     let there = c.in_ok-get.ensures.lookup.3 in
     let f = none_spare _ r (omega arith) (λ m z. elim c.else-is_long.branch [ else-is_long-via-then-is_long+else-text-at-eq48 w ↦ w.if-text-at-eq48.false z | else-is_long-via-else-is_long w ↦ omega arith ]) in
-    let w = word_told _ _ _ c.try_from.ensures c.in_ok-ok.ensures.value in
+    let w = word_told _ _ _ c.run_at-value.result.value c.try_from.ensures c.in_ok-ok.ensures.value (omega arith) in
     rw w.1 (decimal_word c.args.end r f w.0 there.0 (sym (there.1 0) ∙ c.if-branch-byte.false ∙ c.byte.ensures))

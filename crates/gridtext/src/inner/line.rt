@@ -33,7 +33,9 @@ fn put_words(few: Few, words: &mut [u32; room::MOST_WORDS], n: usize) -> usize
     }
 }
 
-// A line of the sort from `at` on; its words to the front of the list.
+// A line of the sort from `at` on; its words to the front of the list. Inlined, as `lines_at` is: each caller's sort then says the fields of
+// a line, which is read by two thirds of the instructions.
+#[inline(always)]
 pub(crate) fn line_at(
     text: &[u8],
     at: usize,

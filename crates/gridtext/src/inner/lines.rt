@@ -13,7 +13,8 @@ pub(crate) struct Run {
     pub next: usize,
 }
 
-// The lines of the sort from `at` on, as many as there are, and no more than `most`.
+// The lines of the sort from `at` on, as many as there are, and no more than `most`. Inlined for `line_at`'s sake.
+#[inline(always)]
 pub(crate) fn lines_at(text: &[u8], at: usize, sort: Sort, most: usize, out: &mut [u32]) -> Run
     requires { (at ≤ length text.now) × (most * size_of sort ≤ length out.old) }
     ensures { LinesAt sort most text.now at out.old out.new result.count result.next }

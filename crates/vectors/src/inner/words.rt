@@ -35,6 +35,7 @@ impl<'a> Words<'a> {
     pub fn word(&mut self) -> u32
         ensures word { result ≡ word_at self.old.text.now self.old.at }
         ensures on { (self.new.text.now ≡ self.old.text.now) × (self.new.at ≡ after_of self.old.text.now self.old.at 1) }
+        ensures onward { self.old.at ≤ self.new.at }
     {
         let word = word_at(self.text, self.at);
         self.skip(1);
